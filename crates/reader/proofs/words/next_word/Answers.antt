@@ -1,0 +1,34 @@
+use mathlib.Core.Path.{_≡_, sym, ap, subst, _∙_}
+use mathlib.Core.List.{_∷_}
+use Prim.Native.Nat.{ℕ, _+_, _-_, _<_, _≤_}
+use native.Mathlib.Omega.{arith}
+use lib.ListN.{length, take, drop, length-drop}
+use Rattle.std.specs.shelf.Lists.{leading}
+use Rattle.std.proofs.shelf.Lists.{at-drop-all, take-rest}
+use Rattle.reader.specs.Words.{space, in-word, words}
+use Rattle.reader.proofs.Laws.{words-none, word-here, word-length, leading-within}
+use Rattle.reader.proofs.words.next_word.Needs as need
+
+pub returns-then-at-line : need.returns-then-at-line
+returns-then-at-line c = at-drop-all (words (c .args .at)) (c .args .line .now) (c .args .at) (c .if-at-line .taken)
+
+pub returns-then-length-eq0 : need.returns-then-length-eq0
+returns-then-length-eq0 c =
+    let l = c .args .line .now in
+    words-none l (c .args .at) (c .run-length .result) (c .run-length .ensures .value ∙ ap (leading space) (take-rest l _)) (ap (leading in-word) (sym (take-rest l _)) ∙ sym (c .run-length-length .ensures .value) ∙ c .if-length-eq0 .taken)
+
+pub returns : need.returns
+returns c =
+    let l = c .args .line .now in
+    let at = c .args .at in
+    let s = c .run-length .result in
+    let n = c .run-length-length .result in
+    let spaces : s ≡ leading space (drop at l) = c .run-length .ensures .value ∙ ap (leading space) (take-rest l _) in
+    let run : n ≡ leading in-word (drop (at + s) l) = c .run-length-length .ensures .value ∙ ap (leading in-word) (take-rest l _) in
+    let some : 0 < n = omega arith in
+    let long = word-length l at s n spaces run some in
+    (
+      word-here l at s n spaces run some ∙ ap (λ x. record { offset = at + s; bytes = take (at + s + n - (at + s)) (drop (at + s) l) } ∷ words (at + s + x) (drop (at + s + x) l)) (sym long),
+      omega (arith, long),
+      omega (arith, long),
+    )

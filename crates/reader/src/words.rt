@@ -1,0 +1,26 @@
+// The words of a line.
+ghost use mathlib.Core.Path.{_≡_};
+ghost use lib.ListN.{length, take, drop};
+ghost use Prim.Native.Nat.{ℕ, _+_, _≤_};
+ghost use Rattle.std.specs.shelf.Lists.{leading};
+ghost use Rattle.reader.specs.Reading.{NextWord};
+use crate::classes::InWordClass;
+use crate::classes::SpaceClass;
+use crate::place::Word;
+use runs::run_length;
+
+// The first word at or after a place of a line, or none.
+pub fn next_word<'a>(line: &'a [u8], at: usize) -> Option<Word<'a>>
+    ensures { λ r. ⌜ NextWord (now (line .entry)) at r ⌝ }
+{
+    if at >= line.len() {
+        return None;
+    }
+    let offset = at + run_length::<SpaceClass>(&line[at..]);
+    let length = run_length::<InWordClass>(&line[offset..]);
+    if length == 0 {
+        return None;
+    }
+    let end = offset + length;
+    Some(Word { offset, bytes: &line[offset..end] })
+}
