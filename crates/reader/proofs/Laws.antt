@@ -68,10 +68,10 @@ words-spaces [] i = refl
 words-spaces (b ∷ bs) i =
     ⊎-elim
     (λ e.
-      let m = leading space bs in
-      let n : leading space (b ∷ bs) ≡ suc m = cond-true (space b) (1 + m) 0 e ∙ one-add m in
-      let k : i + 1 + m ≡ i + suc m = omega arith in
-      cond-false (in-word b) _ _ (ap not e) ∙ words-spaces bs (i + 1) ∙ ap (λ x. words x (drop m bs)) k ∙ ap (λ x. words (i + x) (drop x (b ∷ bs))) (sym n))
+    let m = leading space bs in
+    let n : leading space (b ∷ bs) ≡ suc m = cond-true (space b) (1 + m) 0 e ∙ one-add m in
+    let k : i + 1 + m ≡ i + suc m = omega arith in
+    cond-false (in-word b) _ _ (ap not e) ∙ words-spaces bs (i + 1) ∙ ap (λ x. words x (drop m bs)) k ∙ ap (λ x. words (i + x) (drop x (b ∷ bs))) (sym n))
     (λ e. let n : leading space (b ∷ bs) ≡ 0 = cond-false (space b) _ _ e in ap (λ x. words x (b ∷ bs)) (sym (add-zero i)) ∙ ap (λ x. words (i + x) (drop x (b ∷ bs))) (sym n))
     (cases-bool (space b))
 
@@ -108,12 +108,12 @@ starts [] h = refl
 starts (b ∷ bs) h =
     ⊎-elim
     (λ e.
-      let n : leading space (b ∷ bs) ≡ suc (leading space bs) = cond-true (space b) (1 + leading space bs) 0 e ∙ one-add (leading space bs) in
-      ap (λ x. drop x (b ∷ bs)) n ∙ starts bs (ap (λ x. leading in-word (drop x (b ∷ bs))) (sym n) ∙ h))
+    let n : leading space (b ∷ bs) ≡ suc (leading space bs) = cond-true (space b) (1 + leading space bs) 0 e ∙ one-add (leading space bs) in
+    ap (λ x. drop x (b ∷ bs)) n ∙ starts bs (ap (λ x. leading in-word (drop x (b ∷ bs))) (sym n) ∙ h))
     (λ e.
-      let n : leading space (b ∷ bs) ≡ 0 = cond-false (space b) _ _ e in
-      let m : 1 + leading in-word bs ≡ 0 = sym (cond-true (in-word b) (1 + leading in-word bs) 0 (ap not e)) ∙ ap (λ x. leading in-word (drop x (b ∷ bs))) (sym n) ∙ h in
-      absurd (omega arith))
+    let n : leading space (b ∷ bs) ≡ 0 = cond-false (space b) _ _ e in
+    let m : 1 + leading in-word bs ≡ 0 = sym (cond-true (in-word b) (1 + leading in-word bs) 0 (ap not e)) ∙ ap (λ x. leading in-word (drop x (b ∷ bs))) (sym n) ∙ h in
+    absurd (omega arith))
     (cases-bool (space b))
 
 -- no word from a place on

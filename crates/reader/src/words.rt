@@ -22,5 +22,8 @@ pub fn next_word<'a>(line: &'a [u8], at: usize) -> Option<Word<'a>>
         return None;
     }
     let end = offset + length;
-    Some(Word { offset, bytes: &line[offset..end] })
+    Some(Word {
+        offset,
+        bytes: &line[offset..end],
+    })
 }

@@ -18,7 +18,10 @@ impl<'a> Reader<'a> {
         ensures left { λ r. ⌜ left (now (r .text)) (r .place) ≡ lines (now (text .entry)) ⌝ }
         ensures lines { λ r. ⌜ r .place .lines ≡ 0 ⌝ }
     {
-        Reader { text, place: Place { at: 0, lines: 0 } }
+        Reader {
+            text,
+            place: Place { at: 0, lines: 0 },
+        }
     }
 
     // How many lines were read.
@@ -41,7 +44,14 @@ impl<'a> Reader<'a> {
         let end = offset + run_length::<InLineClass>(&text[offset..]);
         let next = if end < text.len() { end + 1 } else { end };
         let number = self.place.lines + 1;
-        self.place = Place { at: next, lines: number };
-        Some(Line { number, offset, bytes: &text[offset..end] })
+        self.place = Place {
+            at: next,
+            lines: number,
+        };
+        Some(Line {
+            number,
+            offset,
+            bytes: &text[offset..end],
+        })
     }
 }

@@ -26,8 +26,7 @@ returns c =
     let spaces : s ≡ leading space (drop at l) = c .run-length .ensures .value ∙ ap (leading space) (take-rest l _) in
     let run : n ≡ leading in-word (drop (at + s) l) = c .run-length-length .ensures .value ∙ ap (leading in-word) (take-rest l _) in
     let some : 0 < n = omega arith in
-    let long = word-length l at s n spaces run some in
-    (
+    let long = word-length l at s n spaces run some in (
       word-here l at s n spaces run some ∙ ap (λ x. record { offset = at + s; bytes = take (at + s + n - (at + s)) (drop (at + s) l) } ∷ words (at + s + x) (drop (at + s + x) l)) (sym long),
       omega (arith, long),
       omega (arith, long),

@@ -26,8 +26,8 @@ returns c =
     let inside : i < length t = omega arith in
     let head : SourceLine = record { number = n; offset = i; bytes = take (i + m - i) (drop i t) } in
     let line : lines-from n i (drop i t) ≡ head ∷ lines-from (n + 1) (c .if-end-text .next) (drop (c .if-end-text .next) t) =
-      elim (c .if-end-text .came) [
-        then-end-text w ↦ line-here t n i m inside run ∙ ap (λ x. head ∷ lines-from (n + 1) x (drop x t)) (sym (w .next-is))
+    elim (c .if-end-text .came) [
+      | then-end-text w ↦ line-here t n i m inside run ∙ ap (λ x. head ∷ lines-from (n + 1) x (drop x t)) (sym (w .next-is))
       | else-end-text w ↦ last-line t n i m inside run (w .if-end-text .left) ∙ ap (λ x. head ∷ lines-from (n + 1) x (drop x t)) (sym (w .next-is))
-      ] in
+    ] in
     record { text = refl; next = (line, refl, omega (arith, line-length t n i m inside run)) }
