@@ -1,7 +1,10 @@
 -- The answer of taking a word apart, as a value.
 --   value-of    a marked word that was handed out
 --   told        an answer
+--   Short       at most 60 bytes stand around the mark
+use Prim.Native.Nat.{_+_, _≤_}
 use denote.Ref.{now}
+use lib.ListN.{length}
 use Rattle.std.specs.declared.option.Option.{Option}
 use Rattle.std.specs.declared.option.Option.the-variants.{Some, None}
 use Rattle.std.specs.declared.result.Result.{Result}
@@ -17,3 +20,8 @@ abbrev pub told : Result (Option Marked) Cause → Parts
 told (Ok None) = Ok None
 told (Ok (Some m)) = Ok (Some (value-of m))
 told (Err e) = Err e
+
+abbrev pub Short : Result (Option Marked) Cause → Type 0
+Short (Ok None) = Unit {0}
+Short (Ok (Some m)) = length (now (m .prefix)) + length (now (m .suffix)) ≤ 60
+Short (Err e) = Unit {0}

@@ -5,7 +5,7 @@ ghost use lib.ListN.{length, take, drop};
 ghost use Prim.Native.Nat.{ℕ, _+_, _<_, _^_};
 ghost use Rattle.std.specs.shelf.Lists.{leading};
 ghost use Rattle.marks.specs.Parts.{plain, mark-of, right, standing, shut, closed, marked, opened, parts};
-ghost use Rattle.marks.specs.Values.{told};
+ghost use Rattle.marks.specs.Values.{told, Short};
 use crate::mark::Mark;
 use crate::mark::Marked;
 use faults::Cause;
@@ -65,7 +65,8 @@ fn shut_parts<'a>(
     suffix: &'a [u8],
 ) -> Result<Option<Marked<'a>>, Cause>
     requires { ⌜ length (now prefix) + length (now suffix) < 2 ^ 64 ⌝ }
-    ensures { λ r. ⌜ told r ≡ shut title mark (now (prefix .entry)) (now (name .entry)) (now (suffix .entry)) ⌝ }
+    ensures value { λ r. ⌜ told r ≡ shut title mark (now (prefix .entry)) (now (name .entry)) (now (suffix .entry)) ⌝ }
+    ensures around { λ r. ⌜ Short r ⌝ }
 {
     if !is_right(named(name)) {
         return Err(Cause::MarkMalformed);
@@ -97,7 +98,8 @@ fn closed_parts<'a>(
     rest: &'a [u8],
 ) -> Result<Option<Marked<'a>>, Cause>
     requires { ⌜ length (now prefix) + length (now rest) < 2 ^ 64 ⌝ }
-    ensures { λ r. ⌜ told r ≡ closed title mark (now (prefix .entry)) (now (name .entry)) (now (rest .entry)) ⌝ }
+    ensures value { λ r. ⌜ told r ≡ closed title mark (now (prefix .entry)) (now (name .entry)) (now (rest .entry)) ⌝ }
+    ensures around { λ r. ⌜ Short r ⌝ }
 {
     match rest {
         [b'}', suffix @ ..] => shut_parts(title, mark, prefix, name, suffix),
@@ -113,7 +115,8 @@ fn marked_parts<'a>(
     more: &'a [u8],
 ) -> Result<Option<Marked<'a>>, Cause>
     requires { ⌜ length (now prefix) + length (now more) < 2 ^ 64 ⌝ }
-    ensures { λ r. ⌜ told r ≡ marked title mark (now (prefix .entry)) (now (more .entry)) ⌝ }
+    ensures value { λ r. ⌜ told r ≡ marked title mark (now (prefix .entry)) (now (more .entry)) ⌝ }
+    ensures around { λ r. ⌜ Short r ⌝ }
 {
     let Some(mark) = mark else {
         return Err(Cause::MarkMalformed);
@@ -129,7 +132,8 @@ fn opened_parts<'a>(
     rest: &'a [u8],
 ) -> Result<Option<Marked<'a>>, Cause>
     requires { ⌜ length (now prefix) + length (now rest) < 2 ^ 64 ⌝ }
-    ensures { λ r. ⌜ told r ≡ opened title (now (prefix .entry)) (now (rest .entry)) ⌝ }
+    ensures value { λ r. ⌜ told r ≡ opened title (now (prefix .entry)) (now (rest .entry)) ⌝ }
+    ensures around { λ r. ⌜ Short r ⌝ }
 {
     match rest {
         [] => Ok(None),
@@ -140,7 +144,8 @@ fn opened_parts<'a>(
 
 // The parts of a word, in a title or outside one: none for a word without a mark.
 pub fn parse_word<'a>(title: bool, word: &'a [u8]) -> Result<Option<Marked<'a>>, Cause>
-    ensures { λ r. ⌜ told r ≡ parts title (now (word .entry)) ⌝ }
+    ensures value { λ r. ⌜ told r ≡ parts title (now (word .entry)) ⌝ }
+    ensures around { λ r. ⌜ Short r ⌝ }
 {
     let (prefix, rest) = word.split_at(run_length::<PlainClass>(word));
     opened_parts(title, prefix, rest)

@@ -15,6 +15,8 @@ returns-in-123 c =
     let long : 3 ≤ length rest = omega (arith, ltb-false) in
     let brace : getD rest 0 0 ≡ 123 = omega (arith, ltb-false) in
     let colon : getD rest 2 0 ≡ 58 = omega (arith, ltb-false) in
-    c .marked-parts .ensures
+    let same =
+    c .marked-parts .ensures .value
     ∙ ap (λ m. marked (c .args .title) m pre (between 3 (length rest) rest)) (c .mark-of .ensures)
-    ∙ sym (opening (c .args .title) pre rest long brace colon)
+    ∙ sym (opening (c .args .title) pre rest long brace colon) in
+    record { value = same; around = c .marked-parts .ensures .around }

@@ -1,0 +1,5 @@
+pub mod Standing
+pub mod Scanning
+pub mod Checking
+pub mod Values
+pub mod Labelled
