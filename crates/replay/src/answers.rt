@@ -1,0 +1,59 @@
+// The answer to a request.
+ghost use mathlib.Core.Path.{_≡_};
+ghost use Rattle.std.specs.Of.String.{string-bytes};
+ghost use Rattle.std.specs.Vec.{made};
+ghost use Rattle.replay.specs.Answers.{fault-line, counts-line, check-line};
+use crate::hex::decode;
+use faults::Fault;
+use manuscript::Counts;
+use manuscript::check;
+use std::alloc::AllocError;
+use std::alloc::Global;
+
+// Number, layer, line, the name's offset and length, and pass.
+fn fault_line(heap: Global, fault: Fault) -> Result<String, AllocError>
+    ensures { λ r. ⌜ made r (λ s. string-bytes s ≡ fault-line fault) ⌝ }
+{
+    let number = fault.cause.number();
+    let layer = fault.cause.layer().number();
+    let line = fault.line;
+    let offset = fault.name.offset;
+    let length = fault.name.length;
+    let pass = fault.pass;
+    format!(
+        heap,
+        "fault {number} {layer} {line} {offset} {length} {pass}"
+    )
+}
+
+fn counts_line(heap: Global, counts: Counts) -> Result<String, AllocError>
+    ensures { λ r. ⌜ made r (λ s. string-bytes s ≡ counts-line counts) ⌝ }
+{
+    let lines = counts.lines;
+    let labels = counts.labels;
+    let headings = counts.headings;
+    format!(heap, "counts {lines} {labels} {headings}")
+}
+
+fn check_line(heap: Global, text: &[u8]) -> Result<String, AllocError>
+    ensures { λ r. ⌜ made r (λ s. string-bytes s ≡ check-line (now (text .entry))) ⌝ }
+{
+    match check(text) {
+        Ok(counts) => counts_line(heap, counts),
+        Err(fault) => fault_line(heap, fault),
+    }
+}
+
+// The answer to one request line.
+pub fn answer(heap: Global, request: &str) -> Result<String, AllocError> {
+    let mut words = request.split(' ');
+    let command = words.next().unwrap_or("");
+    let argument = words.next().unwrap_or("");
+    let Some(bytes) = decode(heap, argument.as_bytes())? else {
+        return String::from_str(heap, "unreadable");
+    };
+    match command {
+        "check" => check_line(heap, &bytes),
+        _ => String::from_str(heap, "unknown"),
+    }
+}
