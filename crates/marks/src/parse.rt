@@ -6,6 +6,7 @@ ghost use Prim.Native.Nat.{ℕ, _+_, _<_, _^_};
 ghost use Rattle.std.specs.shelf.Lists.{leading};
 ghost use Rattle.marks.specs.Parts.{plain, mark-of, right, standing, shut, closed, marked, opened, parts};
 ghost use Rattle.marks.specs.Values.{told, Short};
+ghost use Rattle.marks.specs.Whole.{Whole};
 use crate::mark::Mark;
 use crate::mark::Marked;
 use faults::Cause;
@@ -146,6 +147,7 @@ fn opened_parts<'a>(
 pub fn parse_word<'a>(title: bool, word: &'a [u8]) -> Result<Option<Marked<'a>>, Cause>
     ensures value { λ r. ⌜ told r ≡ parts title (now (word .entry)) ⌝ }
     ensures around { λ r. ⌜ Short r ⌝ }
+    ensures joined { λ r. ⌜ Whole (now (word .entry)) (told r) ⌝ }
 {
     let (prefix, rest) = word.split_at(run_length::<PlainClass>(word));
     opened_parts(title, prefix, rest)

@@ -95,12 +95,12 @@ module _ (t : List ℕ) (n i m : ℕ) (inside : i < length t) (run : m ≡ leadi
       let fits : m ≤ length (drop i t) = omega (arith, leading-le-length in-line (drop i t)) in
       ap (λ x. length (take x (drop i t))) k ∙ length-take-le m (drop i t) fits
 
--- words from a place on are those after the spaces there
-pub words-after : (l : List ℕ) (at s : ℕ) → s ≡ leading space (drop at l) → words at (drop at l) ≡ words (at + s) (drop (at + s) l)
-words-after l at s spaces =
-    words-spaces (drop at l) at
-    ∙ (λ j. words (at + sym spaces j) (drop (sym spaces j) (drop at l)))
-    ∙ ap (words (at + s)) (drop-drop s at l)
+-- words from a place on, of which the first byte counts as the b-th, are those after the spaces there
+pub words-after : (l : List ℕ) (b at s : ℕ) → s ≡ leading space (drop at l) → words b (drop at l) ≡ words (b + s) (drop (at + s) l)
+words-after l b at s spaces =
+    words-spaces (drop at l) b
+    ∙ (λ j. words (b + sym spaces j) (drop (sym spaces j) (drop at l)))
+    ∙ ap (words (b + s)) (drop-drop s at l)
 
 -- where a longest run of spaces ends, a byte that is there begins a word
 starts : (l : List ℕ) → leading in-word (drop (leading space l) l) ≡ 0 → drop (leading space l) l ≡ []
@@ -116,34 +116,35 @@ starts (b ∷ bs) h =
     absurd (omega arith))
     (cases-bool (space b))
 
--- no word from a place on
-pub words-none : (l : List ℕ) (at s : ℕ) → s ≡ leading space (drop at l) → leading in-word (drop (at + s) l) ≡ 0 → words at (drop at l) ≡ []
-words-none l at s spaces none =
-    let same : drop (leading space (drop at l)) (drop at l) ≡ drop (at + s) l = ap (λ x. drop x (drop at l)) (sym spaces) ∙ drop-drop s at l in
-    let nothing : drop (at + s) l ≡ [] = sym same ∙ starts (drop at l) (ap (leading in-word) same ∙ none) in
-    words-after l at s spaces ∙ ap (words (at + s)) nothing
+-- no byte after the spaces from a place on, and so no word
+module _ (l : List ℕ) (at s : ℕ) (spaces : s ≡ leading space (drop at l)) (none : leading in-word (drop (at + s) l) ≡ 0) where
+  pub nothing-after : drop (at + s) l ≡ []
+  nothing-after =
+      let same : drop (leading space (drop at l)) (drop at l) ≡ drop (at + s) l = ap (λ x. drop x (drop at l)) (sym spaces) ∙ drop-drop s at l in
+      sym same ∙ starts (drop at l) (ap (leading in-word) same ∙ none)
+
+  pub words-none : (b : ℕ) → words b (drop at l) ≡ []
+  words-none b = words-after l b at s spaces ∙ ap (words (b + s)) nothing-after
 
 -- a run that is not empty begins with a byte of its class
-first-in : (l : List ℕ) (i : ℕ) → 0 < leading in-word (drop i l) → (i < length l) × (in-word (getD l i 0) ≡ true)
+pub first-in : (l : List ℕ) (i : ℕ) → 0 < leading in-word (drop i l) → (i < length l) × (in-word (getD l i 0) ≡ true)
 first-in [] i h = absurd (omega (arith, at-drop-all (leading in-word) [] i (omega arith)))
 first-in (b ∷ bs) zero h = (omega arith, ⊎-elim (λ e. e) (λ e. let z : leading in-word (b ∷ bs) ≡ 0 = cond-false (in-word b) _ _ e in absurd (omega arith)) (cases-bool (in-word b)))
 first-in (b ∷ bs) (suc i) h = let r = first-in bs i h in (omega (arith, r .0), r .1)
 
--- the word from a place on, and the words after it
-module _ (l : List ℕ) (at s n : ℕ) (spaces : s ≡ leading space (drop at l)) (run : n ≡ leading in-word (drop (at + s) l)) (some : 0 < n) where
-  pub word-length : length (take (at + s + n - (at + s)) (drop (at + s) l)) ≡ n
+-- the word after the spaces from a place on, and the words after it
+module _ (l : List ℕ) (at s n : ℕ) (spaces : s ≡ leading space (drop at l)) (run : n ≡ leading in-word (drop (at + s) l)) where
+  pub word-length : length (take n (drop (at + s) l)) ≡ n
   word-length =
-      let k : at + s + n - (at + s) ≡ n = omega arith in
       let fits : n ≤ length (drop (at + s) l) = omega (arith, leading-le-length in-word (drop (at + s) l)) in
-      ap (λ x. length (take x (drop (at + s) l))) k ∙ length-take-le n (drop (at + s) l) fits
+      length-take-le n (drop (at + s) l) fits
 
-  pub word-here : words at (drop at l) ≡ record { offset = at + s; bytes = take (at + s + n - (at + s)) (drop (at + s) l) } ∷ words (at + s + n) (drop (at + s + n) l)
-  word-here =
+  pub word-here : (b : ℕ) → 0 < n → words b (drop at l) ≡ record { offset = b + s; bytes = take n (drop (at + s) l) } ∷ words (b + s + n) (drop (at + s + n) l)
+  word-here b some =
       let o = at + s in
       let f = first-in l o (omega arith) in
-      let P : List ℕ → Type 0 = λ x. words o x ≡ record { offset = o; bytes = take (leading in-word x) x } ∷ words (o + leading in-word x) (drop (leading in-word x) x) in
-      let k : leading in-word (drop o l) ≡ o + n - o = omega arith in
-      words-after l at s spaces
-      ∙ subst P (sym (drop-more l o 0 (f .0))) (words-cons o (getD l o 0) (drop (o + 1) l) (f .1))
-      ∙ (λ j. record { offset = o; bytes = take (k j) (drop o l) } ∷ words (o + sym run j) (drop (sym run j) (drop o l)))
-      ∙ ap (λ x. record { offset = o; bytes = take (o + n - o) (drop o l) } ∷ words (o + n) x) (drop-drop n o l)
+      let P : List ℕ → Type 0 = λ x. words (b + s) x ≡ record { offset = b + s; bytes = take (leading in-word x) x } ∷ words (b + s + leading in-word x) (drop (leading in-word x) x) in
+      words-after l b at s spaces
+      ∙ subst P (sym (drop-more l o 0 (f .0))) (words-cons (b + s) (getD l o 0) (drop (o + 1) l) (f .1))
+      ∙ (λ j. record { offset = b + s; bytes = take (sym run j) (drop o l) } ∷ words (b + s + sym run j) (drop (sym run j) (drop o l)))
+      ∙ ap (λ x. record { offset = b + s; bytes = take n (drop o l) } ∷ words (b + s + n) x) (drop-drop n o l)

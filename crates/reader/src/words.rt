@@ -3,6 +3,7 @@ ghost use mathlib.Core.Path.{_≡_};
 ghost use lib.ListN.{length, take, drop};
 ghost use Prim.Native.Nat.{ℕ, _+_, _≤_};
 ghost use Rattle.std.specs.shelf.Lists.{leading};
+ghost use Rattle.reader.specs.Laws.{Words-law};
 ghost use Rattle.reader.specs.Reading.{NextWord};
 use crate::classes::InWordClass;
 use crate::classes::SpaceClass;
@@ -11,7 +12,8 @@ use runs::run_length;
 
 // The first word at or after a place of a line, or none.
 pub fn next_word<'a>(line: &'a [u8], at: usize) -> Option<Word<'a>>
-    ensures { λ r. ⌜ NextWord (now (line .entry)) at r ⌝ }
+    ensures next { λ r. ⌜ NextWord (now (line .entry)) at r ⌝ }
+    ensures law { λ _. ⌜ Words-law at (drop at (now (line .entry))) ⌝ }
 {
     if at >= line.len() {
         return None;

@@ -3,6 +3,7 @@ ghost use mathlib.Core.Path.{_≡_};
 ghost use lib.ListN.{length, take, drop};
 ghost use Prim.Native.Nat.{ℕ, _+_, _-_, _≤_};
 ghost use Rattle.std.specs.shelf.Lists.{leading};
+ghost use Rattle.reader.specs.Laws.{Lines-law};
 ghost use Rattle.reader.specs.Lines.{lines};
 ghost use Rattle.reader.specs.Reading.{left, NextLine};
 use crate::classes::InLineClass;
@@ -17,6 +18,7 @@ impl<'a> Reader<'a> {
         ensures text { λ r. ⌜ now (r .text) ≡ now (text .entry) ⌝ }
         ensures left { λ r. ⌜ left (now (r .text)) (r .place) ≡ lines (now (text .entry)) ⌝ }
         ensures lines { λ r. ⌜ r .place .lines ≡ 0 ⌝ }
+        ensures law { λ _. ⌜ Lines-law (now (text .entry)) ⌝ }
     {
         Reader {
             text,
