@@ -8,15 +8,15 @@ use Rattle.std.proofs.shelf.Lists.{at-drop-all, take-rest}
 use Rattle.reader.specs.Words.{space, in-word, words}
 use Rattle.reader.proofs.Runs.{words-law}
 use Rattle.reader.proofs.Laws.{words-none, word-here, word-length, leading-within}
-use Rattle.reader.proofs.words.next_word.Needs as need
+use Rattle.reader.proofs.words.word_bounds.Needs as need
 
 pub returns-then-at-line : need.returns-then-at-line
-returns-then-at-line c = record { next = at-drop-all (words (c .args .at)) (c .args .line .now) (c .args .at) (c .if-at-line .taken); law = words-law (c .args .at) _ }
+returns-then-at-line c = record { word = at-drop-all (words (c .args .at)) (c .args .line .now) (c .args .at) (c .if-at-line .taken); law = words-law (c .args .at) _ }
 
 pub returns-then-length-eq0 : need.returns-then-length-eq0
 returns-then-length-eq0 c =
     let l = c .args .line .now in
-    record { next = words-none l (c .args .at) (c .run-length .result) (c .run-length .ensures .value ∙ ap (leading space) (take-rest l _)) (ap (leading in-word) (sym (take-rest l _)) ∙ sym (c .run-length-length .ensures .value) ∙ c .if-length-eq0 .taken) (c .args .at); law = words-law (c .args .at) _ }
+    record { word = words-none l (c .args .at) (c .run-length .result) (c .run-length .ensures .value ∙ ap (leading space) (take-rest l _)) (ap (leading in-word) (sym (take-rest l _)) ∙ sym (c .run-length-length .ensures .value) ∙ c .if-length-eq0 .taken) (c .args .at); law = words-law (c .args .at) _ }
 
 pub returns : need.returns
 returns c =
@@ -30,11 +30,12 @@ returns c =
     let cut : n ≡ at + s + n - (at + s) = omega arith in
     let long : length (take (at + s + n - (at + s)) (drop (at + s) l)) ≡ n = ap (λ x. length (take x (drop (at + s) l))) (sym cut) ∙ word-length l at s n spaces run in
     record {
-      next = (
-        word-here l at s n spaces run at some
-            ∙ (λ j. record { offset = at + s; bytes = take (cut j) (drop (at + s) l) } ∷ words (at + s + sym long j) (drop (at + s + sym long j) l)),
-        omega (arith, long),
-        omega (arith, long),
+      word = (
+        word-here l at s n spaces run at some ∙ ap (λ x. record { offset = at + s; bytes = take x (drop (at + s) l) } ∷ words (at + s + n) (drop (at + s + n) l)) cut,
+        omega arith,
+        omega arith,
+        omega arith,
+        long ∙ cut,
       );
       law = words-law at (drop at l);
     }
