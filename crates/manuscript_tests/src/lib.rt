@@ -19,185 +19,129 @@ mod tests {
     use std::alloc::Global;
     use std::test::*;
 
-    struct Refusal {
-        text: &'static str,
-        cause: Cause,
-        line: usize,
-        offset: usize,
-        length: usize,
-    }
+    // A text by how often a part stands in it and what ends each part; where that is not empty, a number comes before it.
+    // Then the refusal: cause, line, and the name's offset and length.
+    const REFUSED: [(usize, &str, &str, Cause, usize, usize, usize); 18] = [
+        (60001, "\n", "", Cause::ManuscriptTooLong, 0, 0, 0),
+        (1, "a\tb", "", Cause::ByteNotAllowed, 1, 0, 0),
+        (1, "a\r\n", "", Cause::ByteNotAllowed, 1, 0, 0),
+        (1, "a\n#x\n\t", "", Cause::HeadingMalformed, 2, 0, 0),
+        (1, "#### x", "", Cause::HeadingMalformed, 1, 0, 0),
+        (1, "# ", "", Cause::HeadingMalformed, 1, 0, 0),
+        (1, "!page ", "", Cause::DirectiveUnknown, 1, 0, 0),
+        (
+            1,
+            "!contents\n%\n!contents",
+            "",
+            Cause::SecondContents,
+            3,
+            0,
+            0,
+        ),
+        (1, "{l:a}", "", Cause::MarkMalformed, 1, 0, 0),
+        (1, "x{q:a}", "", Cause::MarkMalformed, 1, 0, 0),
+        (1, "x{p:a}}", "", Cause::MarkMalformed, 1, 0, 0),
+        (1, "# x{p:a}", "", Cause::MarkMalformed, 1, 0, 0),
+        (
+            1,
+            "x{l:abcdefghijklmnopq}",
+            "",
+            Cause::MarkMalformed,
+            1,
+            0,
+            0,
+        ),
+        (
+            1,
+            "aaaaaaaaaaaaaaaaaaaaaaaaaaaaaaaaaaaaaaaaaaaaaaaaaaaaaaaaaaaa{l:x}b",
+            "",
+            Cause::MarkedWordTooLong,
+            1,
+            0,
+            0,
+        ),
+        (1, "a{l:x} b\n c{l:x} {", "", Cause::LabelRepeated, 2, 14, 1),
+        (129, "a{l:n", "}\n", Cause::TooManyLabels, 129, 1174, 4),
+        (129, "# h\n", "", Cause::TooManyHeadings, 129, 0, 0),
+        (
+            1,
+            "a{l:x}\n{p:x} {n:xy}",
+            "",
+            Cause::ReferenceWithoutLabel,
+            2,
+            16,
+            2,
+        ),
+    ];
 
-    const fn in_line(text: &'static str, cause: Cause, line: usize) -> Refusal {
-        Refusal {
-            text,
-            cause,
-            line,
-            offset: 0,
-            length: 0,
+    // A text in the same way, and its lines, labels and headings.
+    const ACCEPTED: [(usize, &str, &str, usize, usize, usize); 11] = [
+        (0, "", "", 0, 0, 0),
+        (1, "\n", "", 1, 0, 0),
+        (1, "a", "", 1, 0, 0),
+        (1, "a\n\nb\n", "", 3, 0, 0),
+        (1, "% {\n ! a # b\n# #x{l:y}\n!page", "", 4, 1, 1),
+        (1, "x{l:abcdefghijklmnop} {p:abcdefghijklmnop}", "", 1, 1, 0),
+        (
+            1,
+            "aaaaaaaaaaaaaaaaaaaaaaaaaaaaaaaaaaaaaaaaaaaaaaaaaaaaaaaaaaaa{l:x}",
+            "",
+            1,
+            1,
+            0,
+        ),
+        (128, "a{l:n", "}\n", 128, 128, 0),
+        (128, "# h\n", "", 128, 0, 128),
+        (60000, "a", "", 1, 0, 0),
+        (60000, "\n", "", 60000, 0, 0),
+    ];
+
+    fn text_of(heap: Global, many: usize, part: &str, end: &str) -> Result<String, AllocError> {
+        let mut text = String::new(heap);
+        for i in 0..many {
+            text.push_str(part)?;
+            if !end.is_empty() {
+                text.push_str(format!(heap, "{i}")?.as_str())?;
+            }
+            text.push_str(end)?;
         }
+        Ok(text)
     }
 
-    fn refused(case: Refusal) -> Result<(), Fail> {
-        let Refusal {
-            text,
-            cause,
-            line,
-            offset,
-            length,
-        } = case;
-        let fault = Fault {
-            cause,
-            line,
-            name: Span { offset, length },
-            pass: 0,
-        };
-        check_eq(check_text(text.as_bytes()), Err(fault)).note(text)
+    #[test]
+    fn refused(rt: LibcRuntime) -> Result<(), Fail> {
+        for (many, part, end, cause, line, offset, length) in REFUSED {
+            let text = text_of(rt.alloc(), many, part, end)?;
+            let name = Span { offset, length };
+            let fault = Fault {
+                cause,
+                line,
+                name,
+                pass: 0,
+            };
+            check_eq(check_text(text.as_bytes()), Err(fault)).note(part)?;
+        }
+        Ok(())
     }
 
-    fn counted(text: &str, lines: usize, labels: usize, headings: usize) -> Result<(), Fail> {
-        check_eq(
-            check_text(text.as_bytes()),
-            Ok(Counts {
+    #[test]
+    fn accepted(rt: LibcRuntime) -> Result<(), Fail> {
+        for (many, part, end, lines, labels, headings) in ACCEPTED {
+            let text = text_of(rt.alloc(), many, part, end)?;
+            let counts = Counts {
                 lines,
                 labels,
                 headings,
-            }),
-        ).note(text)
-    }
-
-    #[test]
-    fn every_refusal_of_a_line() -> Result<(), Fail> {
-        refused(in_line("a\tb", Cause::ByteNotAllowed, 1))?;
-        refused(in_line("a\n#x\n\t", Cause::HeadingMalformed, 2))?;
-        refused(in_line("#### x", Cause::HeadingMalformed, 1))?;
-        refused(in_line("# ", Cause::HeadingMalformed, 1))?;
-        refused(in_line("!page ", Cause::DirectiveUnknown, 1))?;
-        refused(in_line("!contents\n%\n!contents", Cause::SecondContents, 3))?;
-        refused(in_line("{l:a}", Cause::MarkMalformed, 1))?;
-        refused(in_line("x{q:a}", Cause::MarkMalformed, 1))?;
-        refused(in_line("# x{p:a}", Cause::MarkMalformed, 1))?;
-        refused(in_line("x{l:abcdefghijklmnopq}", Cause::MarkMalformed, 1))
-    }
-
-    #[test]
-    fn every_refusal_of_a_name() -> Result<(), Fail> {
-        refused(Refusal {
-            text: "a{l:x} b\n c{l:x}",
-            cause: Cause::LabelRepeated,
-            line: 2,
-            offset: 14,
-            length: 1,
-        })?;
-        refused(Refusal {
-            text: "a{l:x}\n{p:x} {n:xy}",
-            cause: Cause::ReferenceWithoutLabel,
-            line: 2,
-            offset: 16,
-            length: 2,
-        })
-    }
-
-    #[test]
-    fn lines_words_and_names() -> Result<(), Fail> {
-        counted("", 0, 0, 0)?;
-        counted("\n", 1, 0, 0)?;
-        counted("a", 1, 0, 0)?;
-        counted("a\n\nb\n", 3, 0, 0)?;
-        counted("% {\n ! a # b\n# #x{l:y}\n!page", 4, 1, 1)?;
-        counted("x{l:abcdefghijklmnop} {p:abcdefghijklmnop}", 1, 1, 0)
-    }
-
-    // So many copies of a text, each behind its number.
-    fn numbered(
-        heap: Global,
-        many: usize,
-        before: &str,
-        after: &str,
-    ) -> Result<String, AllocError> {
-        let mut text = String::new(heap);
-        for i in 0..many {
-            text.push_str(before)?;
-            text.push_str(format!(heap, "{i}")?.as_str())?;
-            text.push_str(after)?;
+            };
+            check_eq(check_text(text.as_bytes()), Ok(counts)).note(part)?;
         }
-        Ok(text)
-    }
-
-    fn repeated(heap: Global, many: usize, part: &str) -> Result<String, AllocError> {
-        let mut text = String::new(heap);
-        for _ in 0..many {
-            text.push_str(part)?;
-        }
-        Ok(text)
-    }
-
-    #[test]
-    fn tables_that_are_full(rt: LibcRuntime) -> Result<(), Fail> {
-        let heap = rt.alloc();
-        counted(numbered(heap, 128, "a{l:n", "}\n")?.as_str(), 128, 128, 0)?;
-        counted(repeated(heap, 128, "# h\n")?.as_str(), 128, 0, 128)?;
-        let labels = numbered(heap, 129, "a{l:n", "}\n")?;
-        let name = Span {
-            offset: 1174,
-            length: 4,
-        };
-        let full = Fault {
-            cause: Cause::TooManyLabels,
-            line: 129,
-            name,
-            pass: 0,
-        };
-        check_eq(check_text(labels.as_bytes()), Err(full))?;
-        let headings = repeated(heap, 129, "# h\n")?;
-        let none = Span {
-            offset: 0,
-            length: 0,
-        };
-        let full = Fault {
-            cause: Cause::TooManyHeadings,
-            line: 129,
-            name: none,
-            pass: 0,
-        };
-        check_eq(check_text(headings.as_bytes()), Err(full))
-    }
-
-    #[test]
-    fn long_texts_and_words(rt: LibcRuntime) -> Result<(), Fail> {
-        let heap = rt.alloc();
-        let mut word = repeated(heap, 60, "a")?;
-        word.push_str("{l:x}")?;
-        counted(word.as_str(), 1, 1, 0)?;
-        word.push_str("b")?;
-        let none = Span {
-            offset: 0,
-            length: 0,
-        };
-        let long = Fault {
-            cause: Cause::MarkedWordTooLong,
-            line: 1,
-            name: none,
-            pass: 0,
-        };
-        check_eq(check_text(word.as_bytes()), Err(long))?;
-        counted(repeated(heap, 60_000, "a")?.as_str(), 1, 0, 0)?;
-        counted(repeated(heap, 60_000, "\n")?.as_str(), 60_000, 0, 0)?;
-        let over = Fault {
-            cause: Cause::ManuscriptTooLong,
-            line: 0,
-            name: none,
-            pass: 0,
-        };
-        check_eq(
-            check_text(repeated(heap, 60_001, "\n")?.as_bytes()),
-            Err(over),
-        )
+        Ok(())
     }
 
     #[test]
     fn binding() -> Result<(), Fail> {
         check_eq(bind(b"a{l:x}").text().len(), 6)?;
         check_eq(bind(b"{l:x}").text().len(), 0)?;
-        check_eq(check_text(&[0, 255]).is_err(), true)
+        check(check_text(&[0, 255]).is_err())
     }
 }
