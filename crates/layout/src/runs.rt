@@ -1,0 +1,23 @@
+// What the laws give of whole runs, for every layout.
+ghost use mathlib.Core.Path.{_≡_};
+ghost use Rattle.layout.specs.Calls.{paper-told};
+ghost use Rattle.layout.specs.Runs.{Reading-order, Reads-within};
+ghost use Rattle.layout.specs.Spots.{High, Wide};
+use crate::layout::Layout;
+use crate::layout::Printing;
+
+// The words of an accepted run stand apart and inside the page, on pages that never go back;
+// where the paper has lines they strictly ascend in reading order.
+pub fn reading_order<L: Layout>()
+    ensures { λ _. ⌜ Reading-order meaning ⌝ }
+{
+}
+
+// The height and the width of the page inside which the words of every accepted run stand.
+pub fn page_size<P: Printing>(layout: &P) -> (u8, u8)
+    ensures high { λ r. ⌜ High (paper-told (P·Layout .meaning) (now (layout .entry))) (r .0) ⌝ }
+    ensures wide { λ r. ⌜ Wide (paper-told (P·Layout .meaning) (now (layout .entry))) (r .1) ⌝ }
+    ensures reads { λ r. ⌜ Reads-within (P·Layout .meaning) (P·Layout .meaning .settings (now (layout .entry))) (r .0) (r .1) ⌝ }
+{
+    (layout.height(), layout.width())
+}
