@@ -5,6 +5,7 @@ pub use refusal::Refusal;
 pub use refusal::RefusalDebug;
 pub use refusal::RefusalPartialEq;
 pub use runs::page_size;
+pub use runs::printed_order;
 pub use runs::reading_order;
 
 mod layout;

@@ -13,11 +13,19 @@ pub fn reading_order<L: Layout>()
 {
 }
 
-// The height and the width of the page inside which the words of every accepted run stand.
+// The height and the width of a page.
 pub fn page_size<P: Printing>(layout: &P) -> (u8, u8)
+    ensures high { λ r. ⌜ High (paper-told (P·Layout .meaning) (now (layout .entry))) (r .0) ⌝ }
+    ensures wide { λ r. ⌜ Wide (paper-told (P·Layout .meaning) (now (layout .entry))) (r .1) ⌝ }
+{
+    (layout.height(), layout.width())
+}
+
+// The same, and that the words of every accepted run stand in reading order inside such pages.
+pub fn printed_order<P: Printing>(layout: &P) -> (u8, u8)
     ensures high { λ r. ⌜ High (paper-told (P·Layout .meaning) (now (layout .entry))) (r .0) ⌝ }
     ensures wide { λ r. ⌜ Wide (paper-told (P·Layout .meaning) (now (layout .entry))) (r .1) ⌝ }
     ensures reads { λ r. ⌜ Reads-within (P·Layout .meaning) (P·Layout .meaning .settings (now (layout .entry))) (r .0) (r .1) ⌝ }
 {
-    (layout.height(), layout.width())
+    page_size(layout)
 }
