@@ -11,7 +11,7 @@ use Rattle.std.specs.declared.result.Result.{Result}
 use Rattle.layout.specs.Meaning.{Lawful, Proper, Outcome}
 use Rattle.layout.specs.declared.refusal.Refusal.{Refusal}
 use Rattle.layouts.specs.Lines.{next-line, or-refused, put, Sound}
-use Rattle.layouts.specs.LineLaws.{accepted-too-long, by-accepted, in-range, put-here, put-below, ends-paragraph, ends-page}
+use Rattle.layouts.specs.LineLaws.{accepted-too-long, by-accepted, nearest-in-range, put-here, put-below, ends-paragraph, ends-page}
 use Rattle.layouts.specs.Filling.{filling, columns, before, sets}
 use Rattle.layouts.specs.declared.place.Place.{Place}
 use Rattle.layouts.specs.declared.filler.state.Sheet.{Sheet}
@@ -34,7 +34,7 @@ pub filling-lawful : Lawful filling
 filling-lawful = record {
   sized = λ s. (s .high, s .wide);
   marked = λ s k. k .paged;
-  fronted = λ s q. in-range (q .page);
+  fronted = λ s q. nearest-in-range (q .page);
   too-long = λ s q w long. ap (or-refused (λ n. or-refused (put columns (λ c. c + n)) (before s q n))) (accepted-too-long (s .width) (length w) long);
   Sound = λ s q. Sound (s .height) (s .width) q;
   held = λ x. (x .paged, x .lined, x .spaced);

@@ -1,6 +1,7 @@
 -- The laws of layouts, for what the line filler and the fixed form have in common.
 --   accepted-too-long   no bytes, or more than 72, are too wide
 --   by-accepted         what holds of a refusal, and of every word of 1 to width bytes, holds of every word
+--   nearest-in-range    the page nearest to any number is one
 --   Room                from c used on, a word of n bytes fits its line and its share of it
 --   put-here            a word put on the line of the place
 --   put-below           a word put on the next line
@@ -38,8 +39,8 @@ by-accepted P f width n wide fits =
      let b = or-parts (ltb 72 n) (ltb width n) (a .1) in
      fits (omega (arith, eqb-false n 0 (a .0))) (ltb-false width n (b .1)))
 
-pub in-range : (p : ℕ) → (1 ≤ nearest-page p) × (nearest-page p ≤ 999)
-in-range p = (omega arith, omega arith)
+pub nearest-in-range : (p : ℕ) → (1 ≤ nearest-page p) × (nearest-page p ≤ 999)
+nearest-in-range p = (omega arith, omega arith)
 
 abbrev pub Room : (ℕ → ℕ) → (ℕ → ℕ) → ℕ → ℕ → ℕ → ℕ → Type 0
 Room g u full width n c = (g c + n ≤ g (u c)) × ((g c + n ≤ width) × (u c ≤ full))

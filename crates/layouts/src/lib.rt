@@ -4,8 +4,14 @@ pub use filler::LineFillerLayout;
 pub use filler::LineFillerPrinting;
 pub use filler::LineMark;
 pub use filler::Sheet;
+pub use form::CellMark;
+pub use form::FixedForm;
+pub use form::FixedFormLayout;
+pub use form::FixedFormPrinting;
+pub use form::Grid;
 pub use place::Place;
 
 mod filler;
+mod form;
 mod lines;
 mod place;
