@@ -3,7 +3,7 @@ ghost use mathlib.Core.Path.{_≡_};
 ghost use Prim.Native.Nat.{_+_, _<_, _≤_};
 ghost use Rattle.layout.specs.Spots.{Page};
 ghost use Rattle.layouts.specs.FormLaws.{forming-lawful};
-ghost use Rattle.layouts.specs.Forming.{forming, before, column, in-range, Made};
+ghost use Rattle.layouts.specs.Forming.{forming, before, Made};
 ghost use Rattle.std.specs.Vec.{made};
 use crate::lines::accept;
 use crate::place::Place;
@@ -17,19 +17,6 @@ pub use state::FixedForm;
 pub use state::Grid;
 
 mod state;
-
-impl Grid {
-    // The first column of a cell; of the last one for a cell that the form does not have.
-    fn column(&self, cell: u8) -> u8
-        ensures { λ r. ⌜ r ≡ column (now (self .entry)) cell ⌝ }
-    {
-        let cell = if cell < self.cells { cell } else { self.cells };
-        if cell == 0 {
-            return 1;
-        }
-        (cell - 1) * self.width + 1
-    }
-}
 
 impl FixedForm {
     // A form at its opening place: cells of 8 to 40 columns, 1 to 8 to a row, together 20 to 120 columns,
@@ -129,6 +116,7 @@ pub impl Printing for FixedForm as FixedFormPrinting {
     }
 
     fn line_and_column(&self, mark: CellMark) -> (u8, u8) {
-        (mark.row, self.grid.column(mark.cell))
+        let cell = mark.cell.min(self.grid.cells);
+        (mark.row, (cell - 1) * self.grid.width + 1)
     }
 }

@@ -9,9 +9,14 @@ pub use form::FixedForm;
 pub use form::FixedFormLayout;
 pub use form::FixedFormPrinting;
 pub use form::Grid;
+pub use order::filler_page;
+pub use order::filler_reading_order;
+pub use order::form_page;
+pub use order::form_reading_order;
 pub use place::Place;
 
 mod filler;
 mod form;
 mod lines;
+mod order;
 mod place;
