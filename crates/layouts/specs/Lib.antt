@@ -4,3 +4,4 @@ pub mod Filling
 pub mod FillerLaws
 pub mod Forming
 pub mod FormLaws
+pub mod Examples
