@@ -76,10 +76,10 @@ record Follow (b : Paper) (f : Spot) (ws : List Put-word) : Type 0 where
 
 earlier : (b : Paper) (f g : Spot) (ws : List Put-word) → Kind b f → Kind b g → f ≼ g → Follow b g ws → Follow b f ws
 earlier b f g ws i j l r = record {
-    begun = λ v k. ≼-trans b f g (v .spot) i j (r .lies v k .kind) l (r .begun v k);
-    ended = r .ended;
-    lies = r .lies;
-  }
+  begun = λ v k. ≼-trans b f g (v .spot) i j (r .lies v k .kind) l (r .begun v k);
+  ended = r .ended;
+  lies = r .lies;
+}
 
 module _ {Self Mark : Type 0} (m : Meaning Self Mark) (laws : Lawful m) (s : m .Settings) where
   step : (v : Put-word) (ws : List Put-word) (q r : m .Place) → laws .Sound s q → m .sets s q (v .bytes) ≡ placed (v .spot) r → (laws .Sound s r → Follow (m .paper s) (m .front s r) ws) → Follow (m .paper s) (m .front s q) (v ∷ ws)
@@ -116,12 +116,12 @@ module _ {Self Mark : Type 0} (m : Meaning Self Mark) (laws : Lawful m) (s : m .
 
 reads : (b : Paper) (f : Spot) (ws : List Put-word) → Follow b f ws → Reads b ws
 reads b f ws r = record {
-    onward = pairs (Lies b) Ended-before Page-onward (λ v u _ _ e. onward (size v) (v .spot) (u .spot) e) ws (r .lies) (r .ended);
-    ascending = pairs (Lies b) Ended-before (Strictly b) (λ v u i j e. strictly b v u (v .spot) (u .spot) refl refl (i .kind) (j .kind) (i .some) e) ws (r .lies) (r .ended);
-    ended = r .ended;
-    apart = pairs (Lies b) Ended-before Apart (λ v u _ _ e. no-shared (size v) (size u) (v .spot) (u .spot) e) ws (r .lies) (r .ended);
-    inside = r .lies;
-  }
+  onward = pairs (Lies b) Ended-before Page-onward (λ v u _ _ e. onward (size v) (v .spot) (u .spot) e) ws (r .lies) (r .ended);
+  ascending = pairs (Lies b) Ended-before (Strictly b) (λ v u i j e. strictly b v u (v .spot) (u .spot) refl refl (i .kind) (j .kind) (i .some) e) ws (r .lies) (r .ended);
+  ended = r .ended;
+  apart = pairs (Lies b) Ended-before Apart (λ v u _ _ e. no-shared (size v) (size u) (v .spot) (u .spot) e) ws (r .lies) (r .ended);
+  inside = r .lies;
+}
 
 pub reading-order : {Self Mark : Type 0} (m : Meaning Self Mark) → Lawful m → Reading-order m
 reading-order m laws s ws r run = reads (m .paper s) (m .front s (m .opening s)) ws (follows m laws s (laws .opens s) run)

@@ -23,7 +23,6 @@ use Rattle.layout.specs.Spots.{Spot, on, at, page-of, after, _≼_, _≺_, Pap
 use Rattle.layout.specs.Meaning.{Meaning, placed}
 
 infix 40 _∈_
-
 abbrev pub _∈_ : {A : Type 0} → A → List A → Type 0
 x ∈ [] = ⊥
 x ∈ (y ∷ ys) = (x ≡ y) ⊎ (x ∈ ys)

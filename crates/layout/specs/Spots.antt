@@ -30,7 +30,6 @@ after n (at p l c) = at p l (c + n)
 
 infix 40 _≼_
 infix 40 _≺_
-
 abbrev pub _≼_ : Spot → Spot → Type 0
 on p ≼ on q = p ≤ q
 on p ≼ at q l c = p ≤ q

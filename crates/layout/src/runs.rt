@@ -10,8 +10,7 @@ use crate::layout::Printing;
 // where the paper has lines they strictly ascend in reading order.
 pub fn reading_order<L: Layout>()
     ensures { λ _. ⌜ Reading-order meaning ⌝ }
-{
-}
+{}
 
 // The height and the width of a page.
 pub fn page_size<P: Printing>(layout: &P) -> (u8, u8)

@@ -31,7 +31,7 @@ columns c = c
 
 abbrev pub before : Sheet → Place → ℕ → Result Place Refusal
 before s q n =
-  cond (eqb (q .used) 0) (Ok q)
+    cond (eqb (q .used) 0) (Ok q)
     (cond (leb (q .used + 1 + n) (s .width)) (Ok (place (q .page) (q .line) (q .used + 1))) (next-line (s .height) q))
 
 abbrev pub sets : Sheet → Place → List ℕ → Outcome Place

@@ -50,7 +50,7 @@ puts-fitting : (s : Grid) (q : Place) (n : ℕ) → Sound (s .rows) (s .cells) q
 puts-fitting s q n h short =
     cond-both (ltb (q .used) (s .cells)) _ _ (λ o. Good s q n (or-refused (put-cell s) o))
     (λ e. let l = ltb-true (q .used) (s .cells) e in
-     subst (Good s q n) (next-cell s q l) (put-here (s .rows) (s .cells) (s .cells * s .width) (used-columns s) (λ k. k + 1) n q h (q .used) (omega arith) (room s n (q .used) short l)))
+    subst (Good s q n) (next-cell s q l) (put-here (s .rows) (s .cells) (s .cells * s .width) (used-columns s) (λ k. k + 1) n q h (q .used) (omega arith) (room s n (q .used) short l)))
     (λ _. subst (Good s q n) (next-row s q) (put-below (s .rows) (s .cells) (s .cells * s .width) (used-columns s) (λ k. k + 1) n q h (room s n 0 short (s .celled .0))))
 
 pub forming-lawful : Lawful forming

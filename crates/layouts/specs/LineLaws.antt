@@ -29,15 +29,15 @@ pub accepted-too-long : (width n : ℕ) → (n ≡ 0) ⊎ (72 < n) → accepted 
 accepted-too-long width n long =
     cond-both (eqb n 0 || (ltb 72 n || ltb width n)) _ _ (λ o. o ≡ Err WordTooWide) (λ _. refl)
     (λ e. let a = or-parts (eqb n 0) (ltb 72 n || ltb width n) e in
-     let b = or-parts (ltb 72 n) (ltb width n) (a .1) in
-     absurd (⊎-elim (eqb-false n 0 (a .0)) (λ l. omega (arith, ltb-false 72 n (b .0))) long))
+    let b = or-parts (ltb 72 n) (ltb width n) (a .1) in
+    absurd (⊎-elim (eqb-false n 0 (a .0)) (λ l. omega (arith, ltb-false 72 n (b .0))) long))
 
 pub by-accepted : (P : Outcome Place → Type 0) (f : ℕ → Outcome Place) (width n : ℕ) → P (refused WordTooWide) → (1 ≤ n → n ≤ width → P (f n)) → P (or-refused f (accepted width n))
 by-accepted P f width n wide fits =
     cond-both (eqb n 0 || (ltb 72 n || ltb width n)) _ _ (λ o. P (or-refused f o)) (λ _. wide)
     (λ e. let a = or-parts (eqb n 0) (ltb 72 n || ltb width n) e in
-     let b = or-parts (ltb 72 n) (ltb width n) (a .1) in
-     fits (omega (arith, eqb-false n 0 (a .0))) (ltb-false width n (b .1)))
+    let b = or-parts (ltb 72 n) (ltb width n) (a .1) in
+    fits (omega (arith, eqb-false n 0 (a .0))) (ltb-false width n (b .1)))
 
 pub nearest-in-range : (p : ℕ) → (1 ≤ nearest-page p) × (nearest-page p ≤ 999)
 nearest-in-range p = (omega arith, omega arith)
@@ -47,33 +47,39 @@ Room g u full width n c = (g c + n ≤ g (u c)) × ((g c + n ≤ width) × (u c 
 
 module _ (height full width : ℕ) (g u : ℕ → ℕ) (n : ℕ) (q : Place) (h : Sound height full q) where
   pub put-here : (c : ℕ) → g (q .used) ≤ g c → Room g u full width n c → Proper (Sound height full) (front g) (printed height width) n (front g q) (put g u (place (q .page) (q .line) c))
-  put-here c past room =
-      (record {
-         kind = h .0;
-         inside = (h .1, (omega arith, omega arith));
-         ahead = inr (omega arith, inr (refl, omega arith));
-         past = inr (omega arith, inr (refl, omega arith));
-       }, (h .0, h .1, room .1 .1))
+  put-here c past room = (
+    record {
+      kind = h .0;
+      inside = (h .1, (omega arith, omega arith));
+      ahead = inr (omega arith, inr (refl, omega arith));
+      past = inr (omega arith, inr (refl, omega arith));
+    },
+    (h .0, h .1, room .1 .1),
+  )
 
   pub put-below : Room g u full width n 0 → Proper (Sound height full) (front g) (printed height width) n (front g q) (or-refused (put g u) (next-line height q))
   put-below room =
       let Good = λ (o : Result Place Refusal). Proper (Sound height full) (front g) (printed height width) n (front g q) (or-refused (put g u) o) in
       cond-both (ltb (q .line) height) _ _ Good
-      (λ e. let l = ltb-true (q .line) height e in
-       (record {
+      (λ e. let l = ltb-true (q .line) height e in (
+        record {
           kind = h .0;
           inside = ((omega arith, omega arith), (omega arith, omega arith));
           ahead = inr (omega arith, inl (omega arith));
           past = inr (omega arith, inr (refl, omega arith));
-        }, (h .0, (omega arith, omega arith), room .1 .1)))
+        },
+        (h .0, (omega arith, omega arith), room .1 .1),
+      ))
       (λ _. cond-both (ltb (q .page) 999) _ _ Good
-      (λ e. let l = ltb-true (q .page) 999 e in
-       (record {
+      (λ e. let l = ltb-true (q .page) 999 e in (
+        record {
           kind = (omega arith, omega arith);
           inside = ((omega arith, omega arith), (omega arith, omega arith));
           ahead = inl (omega arith);
           past = inr (omega arith, inr (refl, omega arith));
-        }, ((omega arith, omega arith), (omega arith, omega arith), room .1 .1)))
+        },
+        ((omega arith, omega arith), (omega arith, omega arith), room .1 .1),
+      ))
       (λ _. tt))
 
 module _ (height full : ℕ) (g : ℕ → ℕ) (q : Place) (h : Sound height full q) (more : g (q .used) ≤ g full) where

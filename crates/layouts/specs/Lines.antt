@@ -32,7 +32,7 @@ accepted width n = cond (eqb n 0 || (ltb 72 n || ltb width n)) (Err WordTooWide)
 
 abbrev pub next-line : ℕ → Place → Result Place Refusal
 next-line height q =
-  cond (ltb (q .line) height) (Ok (place (q .page) (q .line + 1) 0))
+    cond (ltb (q .line) height) (Ok (place (q .page) (q .line + 1) 0))
     (cond (ltb (q .page) 999) (Ok (place (q .page + 1) 1 0)) (Err PagesUsedUp))
 
 abbrev pub paragraph-end : ℕ → Place → Place

@@ -62,6 +62,7 @@ impl LineFiller {
 
 pub impl Layout for LineFiller as LineFillerLayout {
     type Mark = LineMark;
+
     const LETTER: u8 = b'L';
 
     ghost meaning = { filling };

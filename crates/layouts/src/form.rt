@@ -63,6 +63,7 @@ impl FixedForm {
 
 pub impl Layout for FixedForm as FixedFormLayout {
     type Mark = CellMark;
+
     const LETTER: u8 = b'F';
 
     ghost meaning = { forming };
@@ -78,7 +79,7 @@ pub impl Layout for FixedForm as FixedFormLayout {
     }
 
     fn set(&mut self, word: &[u8]) -> Result<CellMark, Refusal> {
-        let _ = accept(word, self.grid.width)?;
+        accept(word, self.grid.width)?;
         let Place { page, line, used } = self.before()?;
         let cell = used + 1;
         self.place = Place {

@@ -38,7 +38,11 @@ impl Place {
     pub(crate) fn next_line(self, height: u8) -> Result<Place, Refusal>
         ensures { λ r. ⌜ r ≡ next-line height self ⌝ }
     {
-        let Place { page, line, used: _ } = self;
+        let Place {
+            page,
+            line,
+            used: _,
+        } = self;
         if line < height {
             return Ok(Place {
                 page,

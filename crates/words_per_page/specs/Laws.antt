@@ -32,10 +32,10 @@ puts s q w h =
     cond-both (eqb (length w) 0 || ltb 72 (length w)) _ _ Good (λ _. tt)
     (λ _. cond-both (ltb (q .words) (s .words)) _ _ Good
     (λ e. let l = ltb-true (q .words) (s .words) e in
-     (record { kind = h .0; inside = tt; ahead = omega arith; past = omega arith }, (h .0, omega arith)))
+    (record { kind = h .0; inside = tt; ahead = omega arith; past = omega arith }, (h .0, omega arith)))
     (λ _. cond-both (ltb (q .page) 999) _ _ Good
     (λ e. let l = ltb-true (q .page) 999 e in
-     (record { kind = (omega arith, omega arith); inside = tt; ahead = omega arith; past = omega arith }, ((omega arith, omega arith), s .some)))
+    (record { kind = (omega arith, omega arith); inside = tt; ahead = omega arith; past = omega arith }, ((omega arith, omega arith), s .some)))
     (λ _. tt)))
 
 pub counting-lawful : Lawful counting

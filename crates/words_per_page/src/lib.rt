@@ -30,6 +30,7 @@ impl WordsPerPage {
 
 pub impl Layout for WordsPerPage as WordsPerPageLayout {
     type Mark = PageMark;
+
     const LETTER: u8 = b'W';
 
     ghost meaning = { counting };
