@@ -8,7 +8,7 @@ use lib.ListN.{length}
 use Rattle.std.proofs.shelf.Tests.{cases-lt}
 use Rattle.layout.specs.Spots.{Spot, on, at, page-of, after, _≼_, _≺_, Paper, paged, printed, Page, Kind, Inside, High, Wide}
 use Rattle.layout.specs.Meaning.{Meaning, Lawful, Proper, Put, Outcome, refused, placed}
-use Rattle.layout.specs.Runs.{_∈_, Each, Pairs, Put-word, size, Run, done, word, paragraph, page, Ended-before, Page-onward, covered, Covers, Apart, Lies, Strictly, Reads, Reading-order, Reads-within}
+use Rattle.layout.specs.Runs.{_∈_, Each, Pairs, Put-word, size, Run, done, word, paragraph, page, Ended-before, Page-onward, covered, Covers, Apart, Lies, Strictly, Reads, Reading-order, Printed-order}
 use Rattle.layout.specs.declared.refusal.Refusal.the-variants.{WordTooWide}
 
 pub each : {A : Type 0} (P : A → Type 0) (x : A) (xs : List A) → P x → Each P xs → Each P (x ∷ xs)
@@ -131,5 +131,5 @@ pub paper-is : (b : Paper) (h w : ℕ) → High b h → Wide b w → b ≡ print
 paper-is paged h w i j = elim i [ ]
 paper-is (printed g v) h w i j = cc
 
-pub reads-within : {Self Mark : Type 0} (m : Meaning Self Mark) → Lawful m → (s : m .Settings) (h w : ℕ) → High (m .paper s) h → Wide (m .paper s) w → Reads-within m s h w
-reads-within m laws s h w i j ws r run = subst (λ b. Reads b ws) (paper-is (m .paper s) h w i j) (reading-order m laws s ws r run)
+pub printed-order : {Self Mark : Type 0} (m : Meaning Self Mark) → Lawful m → Printed-order m
+printed-order m laws s h w i j ws r run = subst (λ b. Reads b ws) (paper-is (m .paper s) h w i j) (reading-order m laws s ws r run)

@@ -14,12 +14,14 @@
 --   Strictly        on paper with lines, a word stands before another in reading order
 --   Reads           the words of a run stand in reading order, apart and inside the page
 --   Reading-order   every run from the opening place reads so
+--   Reads-within    at some settings, on pages of some height and width
+--   Printed-order   at all settings, on pages of their height and width
 use mathlib.Core.Path.{_≡_}
 use mathlib.Core.List.{List, [], _∷_}
 use mathlib.Core.Logic.{_⊎_}
 use Prim.Native.Nat.{ℕ, _+_, _≤_, _<_}
 use lib.ListN.{length}
-use Rattle.layout.specs.Spots.{Spot, on, at, page-of, after, _≼_, _≺_, Paper, paged, printed, Kind, Inside}
+use Rattle.layout.specs.Spots.{Spot, on, at, page-of, after, _≼_, _≺_, Paper, paged, printed, High, Wide, Kind, Inside}
 use Rattle.layout.specs.Meaning.{Meaning, placed}
 
 infix 40 _∈_
@@ -83,6 +85,8 @@ pub record Reads (b : Paper) (ws : List Put-word) : Type 0 where
 abbrev pub Reading-order : {Self Mark : Type 0} → Meaning Self Mark → Type 0
 Reading-order m = (s : m .Settings) (ws : List Put-word) (r : m .Place) → Run m s (m .opening s) ws r → Reads (m .paper s) ws
 
--- the same at some settings, with the size of the page
 abbrev pub Reads-within : {Self Mark : Type 0} → (m : Meaning Self Mark) → m .Settings → ℕ → ℕ → Type 0
 Reads-within m s height width = (ws : List Put-word) (r : m .Place) → Run m s (m .opening s) ws r → Reads (printed height width) ws
+
+abbrev pub Printed-order : {Self Mark : Type 0} → Meaning Self Mark → Type 0
+Printed-order m = (s : m .Settings) (height width : ℕ) → High (m .paper s) height → Wide (m .paper s) width → Reads-within m s height width

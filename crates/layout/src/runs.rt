@@ -1,7 +1,7 @@
 // What the laws give of whole runs, for every layout.
 ghost use mathlib.Core.Path.{_≡_};
 ghost use Rattle.layout.specs.Calls.{paper-told};
-ghost use Rattle.layout.specs.Runs.{Reading-order, Reads-within};
+ghost use Rattle.layout.specs.Runs.{Reading-order, Printed-order, Reads-within};
 ghost use Rattle.layout.specs.Spots.{High, Wide};
 use crate::layout::Layout;
 use crate::layout::Printing;
@@ -9,7 +9,8 @@ use crate::layout::Printing;
 // The words of an accepted run stand apart and inside the page, on pages that never go back;
 // where the paper has lines they strictly ascend in reading order.
 pub fn reading_order<L: Layout>()
-    ensures { λ _. ⌜ Reading-order meaning ⌝ }
+    ensures order { λ _. ⌜ Reading-order meaning ⌝ }
+    ensures within { λ _. ⌜ Printed-order meaning ⌝ }
 {}
 
 // The height and the width of a page.
@@ -26,5 +27,6 @@ pub fn printed_order<P: Printing>(layout: &P) -> (u8, u8)
     ensures wide { λ r. ⌜ Wide (paper-told (P·Layout .meaning) (now (layout .entry))) (r .1) ⌝ }
     ensures reads { λ r. ⌜ Reads-within (P·Layout .meaning) (P·Layout .meaning .settings (now (layout .entry))) (r .0) (r .1) ⌝ }
 {
+    reading_order::<P>();
     page_size(layout)
 }
