@@ -49,7 +49,8 @@ impl LineFiller {
         if used == 0 {
             return Ok(self.place);
         }
-        if used as u16 + 1 + n as u16 <= self.sheet.width as u16 {
+        // the space and the word fit what is left of the line
+        if n < self.sheet.width - used {
             return Ok(Place {
                 page,
                 line,
