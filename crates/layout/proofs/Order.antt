@@ -8,7 +8,7 @@ use lib.ListN.{length}
 use Rattle.std.proofs.shelf.Tests.{cases-lt}
 use Rattle.layout.specs.Spots.{Spot, on, at, page-of, after, _≼_, _≺_, Paper, paged, printed, Page, Kind, Inside, High, Wide}
 use Rattle.layout.specs.Meaning.{Meaning, Lawful, Proper, Put, Outcome, refused, placed}
-use Rattle.layout.specs.Runs.{_∈_, Each, Pairs, Put-word, size, Run, done, word, paragraph, page, Ended-before, Page-onward, covered, Covers, Apart, Lies, Strictly, Reads, Reading-order, Printed-order}
+use Rattle.layout.specs.Runs.{_∈_, Each, Pairs, Put-word, size, Start, opened, held, Run, done, word, paragraph, page, Ended-before, Page-onward, covered, Covers, Apart, Lies, Strictly, Reads, Reading-order, Printed-order}
 use Rattle.layout.specs.declared.refusal.Refusal.the-variants.{WordTooWide}
 
 pub each : {A : Type 0} (P : A → Type 0) (x : A) (xs : List A) → P x → Each P xs → Each P (x ∷ xs)
@@ -123,8 +123,12 @@ reads b f ws r = record {
   inside = r .lies;
 }
 
+sound-start : {Self Mark : Type 0} (m : Meaning Self Mark) (laws : Lawful m) {s : m .Settings} {q : m .Place} → Start m s q → laws .Sound s q
+sound-start m laws (opened s) = laws .opens s
+sound-start m laws (held x) = laws .held x
+
 pub reading-order : {Self Mark : Type 0} (m : Meaning Self Mark) → Lawful m → Reading-order m
-reading-order m laws s ws r run = reads (m .paper s) (m .front s (m .opening s)) ws (follows m laws s (laws .opens s) run)
+reading-order m laws s q r ws start run = reads (m .paper s) (m .front s q) ws (follows m laws s (sound-start m laws start) run)
 
 -- height and width are all of a printing layout's paper
 pub paper-is : (b : Paper) (h w : ℕ) → High b h → Wide b w → b ≡ printed h w
@@ -132,4 +136,4 @@ paper-is paged h w i j = elim i [ ]
 paper-is (printed g v) h w i j = cc
 
 pub printed-order : {Self Mark : Type 0} (m : Meaning Self Mark) → Lawful m → Printed-order m
-printed-order m laws s h w i j ws r run = subst (λ b. Reads b ws) (paper-is (m .paper s) h w i j) (reading-order m laws s ws r run)
+printed-order m laws s h w i j q r ws start run = subst (λ b. Reads b ws) (paper-is (m .paper s) h w i j) (reading-order m laws s q r ws start run)

@@ -4,6 +4,7 @@
 --   Pairs R xs      R holds of each element with each later one
 --   Put-word        a word that was put: its bytes and its spot
 --   size            how many bytes it has
+--   Start m s q     a run may start at q: it is the opening place, or the place of some value
 --   Run m s q ws r  setting words, and ending paragraphs and pages anywhere between, goes from the place q
 --                   to the place r without a refusal; ws are the words
 --   Ended-before    a word ends before another begins
@@ -13,7 +14,7 @@
 --   Lies            a word has 1 to 72 bytes, and lies on one line inside the page
 --   Strictly        on paper with lines, a word stands before another in reading order
 --   Reads           the words of a run stand in reading order, apart and inside the page
---   Reading-order   every run from the opening place reads so
+--   Reading-order   every run reads so
 --   Reads-within    at some settings, on pages of some height and width
 --   Printed-order   at all settings, on pages of their height and width
 use mathlib.Core.Path.{_≡_}
@@ -42,6 +43,10 @@ pub record Put-word : Type 0 where
 
 abbrev pub size : Put-word → ℕ
 size v = length (v .bytes)
+
+pub data Start {Self Mark : Type 0} (m : Meaning Self Mark) : m .Settings → m .Place → Type 0 where
+  opened : (s : m .Settings) → Start m s (m .opening s)
+  held : (x : Self) → Start m (m .settings x) (m .place x)
 
 pub data Run {Self Mark : Type 0} (m : Meaning Self Mark) (s : m .Settings) : m .Place → List Put-word → m .Place → Type 0 where
   done : {q : m .Place} → Run m s q [] q
@@ -83,10 +88,10 @@ pub record Reads (b : Paper) (ws : List Put-word) : Type 0 where
   pub inside : Each (Lies b) ws
 
 abbrev pub Reading-order : {Self Mark : Type 0} → Meaning Self Mark → Type 0
-Reading-order m = (s : m .Settings) (ws : List Put-word) (r : m .Place) → Run m s (m .opening s) ws r → Reads (m .paper s) ws
+Reading-order m = (s : m .Settings) (q r : m .Place) (ws : List Put-word) → Start m s q → Run m s q ws r → Reads (m .paper s) ws
 
 abbrev pub Reads-within : {Self Mark : Type 0} → (m : Meaning Self Mark) → m .Settings → ℕ → ℕ → Type 0
-Reads-within m s height width = (ws : List Put-word) (r : m .Place) → Run m s (m .opening s) ws r → Reads (printed height width) ws
+Reads-within m s height width = (q r : m .Place) (ws : List Put-word) → Start m s q → Run m s q ws r → Reads (printed height width) ws
 
 abbrev pub Printed-order : {Self Mark : Type 0} → Meaning Self Mark → Type 0
 Printed-order m = (s : m .Settings) (height width : ℕ) → High (m .paper s) height → Wide (m .paper s) width → Reads-within m s height width
