@@ -2,13 +2,13 @@
 use mathlib.Core.Path.{_≡_, refl, sym, subst}
 use mathlib.Core.List.{List, [], _∷_}
 use mathlib.Core.Logic.{_⊎_, inl, inr}
-use Prim.Native.Nat.{ℕ, _+_, _≤_, _<_}
+use Prim.Native.Nat.{ℕ, _≤_, _<_}
 use native.Mathlib.Omega.{arith}
 use lib.ListN.{length}
 use Rattle.std.proofs.shelf.Tests.{cases-lt}
-use Rattle.layout.specs.Spots.{Spot, on, at, page-of, after, _≼_, _≺_, Paper, paged, printed, Page, Kind, Inside, High, Wide}
-use Rattle.layout.specs.Meaning.{Meaning, Lawful, Proper, Put, Outcome, refused, placed}
-use Rattle.layout.specs.Runs.{_∈_, Each, Pairs, Put-word, size, Start, opened, held, Run, done, word, paragraph, page, Ended-before, Page-onward, covered, Covers, Apart, Lies, Strictly, Reads, Reading-order, Printed-order}
+use Rattle.layout.specs.Spots.{Spot, on, at, page-of, after, _≼_, Paper, paged, printed, Kind, High, Wide}
+use Rattle.layout.specs.Meaning.{Meaning, Lawful, Proper, refused, placed}
+use Rattle.layout.specs.Runs.{Each, Pairs, Put-word, size, Start, opened, held, Run, done, word, paragraph, page, Ended-before, Page-onward, covered, Apart, Lies, Strictly, Reads, Reading-order, Printed-order}
 use Rattle.layout.specs.declared.refusal.Refusal.the-variants.{WordTooWide}
 
 pub each : {A : Type 0} (P : A → Type 0) (x : A) (xs : List A) → P x → Each P xs → Each P (x ∷ xs)

@@ -1,5 +1,4 @@
 // What the laws give of whole runs, for every layout.
-ghost use mathlib.Core.Path.{_≡_};
 ghost use Rattle.layout.specs.Calls.{paper-told};
 ghost use Rattle.layout.specs.Runs.{Reading-order, Printed-order, Reads-within};
 ghost use Rattle.layout.specs.Spots.{High, Wide};

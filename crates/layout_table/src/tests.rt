@@ -1,5 +1,4 @@
 // Rows of steps and answers for the layouts.
-use faults::Fault;
 use faults::FaultDebug;
 use layout::Layout;
 use layout::Printing;

@@ -1,7 +1,6 @@
 -- The line filler keeps the laws of layouts.
 --   filling-lawful   the laws
-use mathlib.Core.Path.{_≡_, refl, ap}
-use mathlib.Core.List.{List}
+use mathlib.Core.Path.{ap}
 use Prim.Native.Nat.{ℕ, _+_, _≤_}
 use native.Mathlib.Omega.{arith}
 use lib.Dec.{leb, eqb}
@@ -10,9 +9,9 @@ use Rattle.std.proofs.shelf.Tests.{cond-both, leb-true, eqb-true}
 use Rattle.std.specs.declared.result.Result.{Result}
 use Rattle.layout.specs.Meaning.{Lawful, Proper, Outcome}
 use Rattle.layout.specs.declared.refusal.Refusal.{Refusal}
-use Rattle.layouts.specs.Lines.{next-line, or-refused, put, Sound}
+use Rattle.layouts.specs.Lines.{or-refused, put, Sound}
 use Rattle.layouts.specs.LineLaws.{accepted-too-long, by-accepted, nearest-in-range, put-here, put-below, ends-paragraph, ends-page}
-use Rattle.layouts.specs.Filling.{filling, columns, before, sets}
+use Rattle.layouts.specs.Filling.{filling, columns, before}
 use Rattle.layouts.specs.declared.place.Place.{Place}
 use Rattle.layouts.specs.declared.filler.state.Sheet.{Sheet}
 

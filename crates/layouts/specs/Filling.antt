@@ -3,12 +3,13 @@
 --             the space where space and word fit the line, otherwise the beginning of the next line
 --   sets      what comes of setting a word: its last column is what is used then
 --   filling   the meaning of the line filler
+--   in-range  width 20 to 120, height 1 to 90
+--   Fronted   the front of every filler is right after its used columns
 --   Made      what the making call answers: a filler with these settings at the opening place, or 16
-use mathlib.Core.Path.{_≡_, refl}
+use mathlib.Core.Path.{_≡_}
 use mathlib.Core.List.{List}
 use mathlib.Core.Bool.{Bool, true, false, cond, _&&_}
 use Prim.Native.Nat.{ℕ, _+_}
-use lib.Chars.{codes}
 use lib.Dec.{leb, eqb}
 use lib.ListN.{length}
 use Rattle.std.specs.declared.result.Result.{Result}
@@ -17,7 +18,7 @@ use Rattle.faults.specs.Faults.{plain}
 use Rattle.faults.specs.declared.cause.Cause.the-variants.{LayoutSettings}
 use Rattle.faults.specs.declared.fault.Fault.{Fault}
 use Rattle.layout.specs.Spots.{at, printed}
-use Rattle.layout.specs.Meaning.{Meaning, Outcome, placed}
+use Rattle.layout.specs.Meaning.{Meaning, Outcome}
 use Rattle.layout.specs.declared.refusal.Refusal.{Refusal}
 use Rattle.layouts.specs.Lines.{place, opening, accepted, next-line, paragraph-end, page-end, or-refused, put, front}
 use Rattle.layouts.specs.declared.place.Place.{Place}
@@ -52,6 +53,9 @@ filling = record {
   paragraph-end = λ s q. paragraph-end (s .width) q;
   page-end = λ s q. page-end (s .height) (s .width) q;
 }
+
+abbrev pub Fronted : Type 0
+Fronted = (x : LineFiller) → filling .front (x .sheet) (x .place) ≡ at (x .place .page) (x .place .line) (x .place .used + 1)
 
 abbrev pub in-range : ℕ → ℕ → Bool
 in-range width height = (leb 20 width && leb width 120) && (leb 1 height && leb height 90)

@@ -1,9 +1,8 @@
 -- The fixed form keeps the laws of layouts.
 --   forming-lawful   the laws
-use mathlib.Core.Path.{_≡_, refl, ap, subst, sym, _∙_}
-use mathlib.Core.List.{List}
+use mathlib.Core.Path.{_≡_, refl, ap, subst, _∙_}
 use Prim.Native.Nat.{ℕ, _+_, _-_, _*_, _≤_, _<_, min}
-use native.Mathlib.Nat.{mul-le-mul-right, add-mul, one-mul, zero-mul}
+use native.Mathlib.Nat.{mul-le-mul-right, add-mul, one-mul}
 use native.Mathlib.Omega.{arith}
 use lib.Dec.{ltb}
 use lib.ListN.{length}
@@ -14,7 +13,7 @@ use Rattle.layout.specs.Meaning.{Lawful, Proper, Outcome, placed}
 use Rattle.layout.specs.declared.refusal.Refusal.{Refusal}
 use Rattle.layouts.specs.Lines.{place, next-line, or-refused, put, Sound}
 use Rattle.layouts.specs.LineLaws.{accepted-too-long, by-accepted, nearest-in-range, Room, put-here, put-below, ends-paragraph, ends-page}
-use Rattle.layouts.specs.Forming.{forming, used-columns, column, before, put-cell, sets}
+use Rattle.layouts.specs.Forming.{forming, used-columns, before, put-cell}
 use Rattle.layouts.specs.declared.place.Place.{Place}
 use Rattle.layouts.specs.declared.form.state.Grid.{Grid}
 

@@ -6,9 +6,10 @@
 --   put-cell       a word in the cell right after those that are used
 --   sets           what comes of setting a word
 --   forming        the meaning of the fixed form
+--   Fronted        the front of every form is right after its used cells
 --   in-range       cells of 8 to 40 columns, 1 to 8 to a row, together 20 to 120 columns, and 1 to 60 rows
 --   Made           what the making call answers: a form with these settings at the opening place, or 16
-use mathlib.Core.Path.{_≡_, refl}
+use mathlib.Core.Path.{_≡_}
 use mathlib.Core.List.{List}
 use mathlib.Core.Bool.{Bool, true, false, cond, _&&_}
 use Prim.Native.Nat.{ℕ, _+_, _-_, _*_, min}
@@ -58,6 +59,9 @@ forming = record {
   paragraph-end = λ s q. paragraph-end (s .cells) q;
   page-end = λ s q. page-end (s .rows) (s .cells) q;
 }
+
+abbrev pub Fronted : Type 0
+Fronted = (x : FixedForm) → forming .front (x .grid) (x .place) ≡ at (x .place .page) (x .place .line) (x .place .used * x .grid .width + 1)
 
 abbrev pub in-range : ℕ → ℕ → ℕ → Bool
 in-range width cells rows = ((leb 8 width && leb width 40) && (leb 1 cells && leb cells 8)) && ((leb 1 rows && leb rows 60) && (leb 20 (cells * width) && leb (cells * width) 120))

@@ -7,9 +7,8 @@
 --   put-below           a word put on the next line
 --   ends-paragraph      the front after a paragraph end
 --   ends-page           the front after a page end
-use mathlib.Core.Path.{_≡_, refl, ap}
-use mathlib.Core.Bool.{cond, _&&_, _||_}
-use mathlib.Core.List.{List}
+use mathlib.Core.Path.{_≡_, refl}
+use mathlib.Core.Bool.{_&&_, _||_}
 use mathlib.Core.Logic.{_⊎_, inl, inr, ⊎-elim}
 use Prim.Native.Nat.{ℕ, _+_, _≤_, _<_}
 use native.Mathlib.Nat.{eq-or-lt-of-le}
@@ -17,9 +16,9 @@ use native.Mathlib.Omega.{arith}
 use lib.Dec.{ltb, eqb}
 use Rattle.std.proofs.shelf.Tests.{cond-both, or-parts, ltb-true, ltb-false, eqb-false}
 use Rattle.std.specs.declared.result.Result.{Result}
-use Rattle.std.specs.declared.result.Result.the-variants.{Ok, Err}
-use Rattle.layout.specs.Spots.{printed, Kind, nearest-page, _≼_}
-use Rattle.layout.specs.Meaning.{Outcome, refused, Proper, Put, Onward}
+use Rattle.std.specs.declared.result.Result.the-variants.{Err}
+use Rattle.layout.specs.Spots.{printed, nearest-page}
+use Rattle.layout.specs.Meaning.{Outcome, refused, Proper, Onward}
 use Rattle.layout.specs.declared.refusal.Refusal.{Refusal}
 use Rattle.layout.specs.declared.refusal.Refusal.the-variants.{WordTooWide}
 use Rattle.layouts.specs.Lines.{place, accepted, next-line, paragraph-end, page-end, or-refused, put, front, Sound}

@@ -2,8 +2,8 @@
 ghost use mathlib.Core.Path.{_≡_};
 ghost use Prim.Native.Nat.{_*_};
 ghost use Rattle.layout.specs.Runs.{Reading-order, Reads-within};
-ghost use Rattle.layouts.specs.Filling.{filling};
-ghost use Rattle.layouts.specs.Forming.{forming};
+ghost use Rattle.layouts.specs.Filling.{filling, Fronted as Filler-fronted};
+ghost use Rattle.layouts.specs.Forming.{forming, Fronted as Form-fronted};
 use crate::filler::LineFiller;
 use crate::filler::LineFillerLayout;
 use crate::filler::LineFillerPrinting;
@@ -15,7 +15,8 @@ use layout::reading_order;
 
 // The words of every accepted run of a line filler stand in reading order, apart and inside the page.
 pub fn filler_reading_order()
-    ensures { λ _. ⌜ Reading-order filling ⌝ }
+    ensures order { λ _. ⌜ Reading-order filling ⌝ }
+    ensures front { λ _. ⌜ Filler-fronted ⌝ }
 {
     reading_order::<LineFillerLayout>();
 }
@@ -31,7 +32,8 @@ pub fn filler_page(filler: &LineFiller) -> (u8, u8)
 
 // The words of every accepted run of a fixed form stand in reading order, apart and inside the page.
 pub fn form_reading_order()
-    ensures { λ _. ⌜ Reading-order forming ⌝ }
+    ensures order { λ _. ⌜ Reading-order forming ⌝ }
+    ensures front { λ _. ⌜ Form-fronted ⌝ }
 {
     reading_order::<FixedFormLayout>();
 }

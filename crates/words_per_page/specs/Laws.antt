@@ -11,7 +11,7 @@ use lib.Dec.{ltb, eqb}
 use lib.ListN.{length}
 use Rattle.std.proofs.shelf.Tests.{cond-both, or-parts, ltb-true, ltb-false, eqb-false}
 use Rattle.layout.specs.Spots.{Page}
-use Rattle.layout.specs.Meaning.{Lawful, Proper, Put, Onward, Outcome, refused}
+use Rattle.layout.specs.Meaning.{Lawful, Proper, Onward, refused}
 use Rattle.layout.specs.declared.refusal.Refusal.the-variants.{WordTooWide}
 use Rattle.words_per_page.specs.Counting.{counting, sets}
 use Rattle.words_per_page.specs.declared.state.Quota.{Quota}

@@ -1,5 +1,4 @@
 // The smallest layout, as an example: a page takes a fixed number of words. It knows no lines, so it pages and does not print.
-ghost use mathlib.Core.Path.{_≡_};
 ghost use Rattle.layout.specs.Runs.{Reading-order};
 ghost use Rattle.words_per_page.specs.Counting.{counting, Made};
 ghost use Rattle.words_per_page.specs.Laws.{counting-lawful};
