@@ -8,7 +8,7 @@ use lib.ListN.{length}
 use Rattle.std.proofs.shelf.Tests.{cases-lt}
 use Rattle.layout.specs.Spots.{Spot, on, at, page-of, after, _≼_, Paper, paged, printed, Kind, High, Wide}
 use Rattle.layout.specs.Meaning.{Meaning, Lawful, Proper, refused, placed}
-use Rattle.layout.specs.Runs.{Each, Pairs, Put-word, size, Start, opened, held, Run, done, word, paragraph, page, Ended-before, Page-onward, covered, Apart, Lies, Strictly, Reads, Reading-order, Printed-order}
+use Rattle.layout.specs.Runs.{Each, Pairs, Put-word, size, Start, opened, held, Run, done, word, paragraph, page, Ended-before, Page-onward, covered, Apart, Lies, Precedes, Reads, Reading-order, Printed-order}
 use Rattle.layout.specs.declared.refusal.Refusal.the-variants.{WordTooWide}
 
 pub each : {A : Type 0} (P : A → Type 0) (x : A) (xs : List A) → P x → Each P xs → Each P (x ∷ xs)
@@ -49,11 +49,11 @@ onward n (on p) (at q m d) f = f
 onward n (at p l c) (on q) f = f
 onward n (at p l c) (at q m d) f = grind arith
 
-strictly : (b : Paper) (v u : Put-word) (x y : Spot) → v .spot ≡ x → u .spot ≡ y → Kind b x → Kind b y → 1 ≤ size v → after (size v) x ≼ y → Strictly b v u
-strictly paged v u x y d e i j k f = tt
-strictly (printed h w) v u (on p) y d e i j k f = elim i [ ]
-strictly (printed h w) v u (at p l c) (on q) d e i j k f = elim j [ ]
-strictly (printed h w) v u (at p l c) (at q m g) d e i j k f = rw (d, e) (grind arith)
+precedes : (b : Paper) (v u : Put-word) (x y : Spot) → v .spot ≡ x → u .spot ≡ y → Kind b x → Kind b y → 1 ≤ size v → after (size v) x ≼ y → Precedes b v u
+precedes paged v u x y d e i j k f = tt
+precedes (printed h w) v u (on p) y d e i j k f = elim i [ ]
+precedes (printed h w) v u (at p l c) (on q) d e i j k f = elim j [ ]
+precedes (printed h w) v u (at p l c) (at q m g) d e i j k f = rw (d, e) (grind arith)
 
 no-shared : (n k : ℕ) (x y : Spot) → after n x ≼ y → (p l c : ℕ) → covered n x p l c → covered k y p l c → ⊥
 no-shared n k (on q) y f p l c i j = i
@@ -117,7 +117,7 @@ module _ {Self Mark : Type 0} (m : Meaning Self Mark) (laws : Lawful m) (s : m .
 reads : (b : Paper) (f : Spot) (ws : List Put-word) → Follow b f ws → Reads b ws
 reads b f ws r = record {
   onward = pairs (Lies b) Ended-before Page-onward (λ v u _ _ e. onward (size v) (v .spot) (u .spot) e) ws (r .lies) (r .ended);
-  ascending = pairs (Lies b) Ended-before (Strictly b) (λ v u i j e. strictly b v u (v .spot) (u .spot) refl refl (i .kind) (j .kind) (i .some) e) ws (r .lies) (r .ended);
+  ascending = pairs (Lies b) Ended-before (Precedes b) (λ v u i j e. precedes b v u (v .spot) (u .spot) refl refl (i .kind) (j .kind) (i .some) e) ws (r .lies) (r .ended);
   ended = r .ended;
   apart = pairs (Lies b) Ended-before Apart (λ v u _ _ e. no-shared (size v) (size u) (v .spot) (u .spot) e) ws (r .lies) (r .ended);
   inside = r .lies;

@@ -8,11 +8,11 @@
 --   Run m s q ws r  setting words, and ending paragraphs and pages anywhere between, goes from the place q
 --                   to the place r without a refusal; ws are the words
 --   Ended-before    a word ends before another begins
---   Page-onward     a word stands on the page of another, or the other on a later one
+--   Page-onward     of two words, the later is on the page of the earlier or on a later one
 --   Covers          a word has a byte in this column of this line of this page
 --   Apart           two words share no column of a line
 --   Lies            a word has 1 to 72 bytes, and lies on one line inside the page
---   Strictly        on paper with lines, a word stands before another in reading order
+--   Precedes        on paper with lines, a word stands strictly before another in reading order
 --   Reads           the words of a run stand in reading order, apart and inside the page
 --   Reading-order   every run reads so
 --   Reads-within    at some settings, on pages of some height and width
@@ -76,15 +76,20 @@ pub record Lies (b : Paper) (v : Put-word) : Type 0 where
   pub some : 1 ≤ size v
   pub short : size v ≤ 72
 
-abbrev pub Strictly : Paper → Put-word → Put-word → Type 0
-Strictly paged v u = Unit {0}
-Strictly (printed h w) v u = v .spot ≺ u .spot
+abbrev pub Precedes : Paper → Put-word → Put-word → Type 0
+Precedes paged v u = Unit {0}
+Precedes (printed h w) v u = v .spot ≺ u .spot
 
 pub record Reads (b : Paper) (ws : List Put-word) : Type 0 where
+  -- the pages never go back
   pub onward : Pairs Page-onward ws
-  pub ascending : Pairs (Strictly b) ws
+  -- where the paper has lines, the words strictly ascend
+  pub ascending : Pairs (Precedes b) ws
+  -- each begins after the end of every earlier one
   pub ended : Pairs Ended-before ws
+  -- no two share a column of a line
   pub apart : Pairs Apart ws
+  -- each lies inside the page
   pub inside : Each (Lies b) ws
 
 abbrev pub Reading-order : {Self Mark : Type 0} → Meaning Self Mark → Type 0

@@ -1,6 +1,5 @@
 -- The line filler keeps the laws of layouts.
 --   filling-lawful   the laws
-use mathlib.Core.Path.{ap}
 use Prim.Native.Nat.{ℕ, _+_, _≤_}
 use native.Mathlib.Omega.{arith}
 use lib.Dec.{leb, eqb}
@@ -10,7 +9,7 @@ use Rattle.std.specs.declared.result.Result.{Result}
 use Rattle.layout.specs.Meaning.{Lawful, Proper, Outcome}
 use Rattle.layout.specs.declared.refusal.Refusal.{Refusal}
 use Rattle.layouts.specs.Lines.{or-refused, put, Sound}
-use Rattle.layouts.specs.LineLaws.{accepted-too-long, by-accepted, nearest-in-range, put-here, put-below, ends-paragraph, ends-page}
+use Rattle.layouts.specs.LineLaws.{by-accepted, too-long, nearest-in-range, put-here, put-below, ends-paragraph, ends-page}
 use Rattle.layouts.specs.Filling.{filling, columns, before}
 use Rattle.layouts.specs.declared.place.Place.{Place}
 use Rattle.layouts.specs.declared.filler.state.Sheet.{Sheet}
@@ -34,11 +33,11 @@ filling-lawful = record {
   sized = λ s. (s .high, s .wide);
   marked = λ s k. k .paged;
   fronted = λ s q. nearest-in-range (q .page);
-  too-long = λ s q w long. ap (or-refused (λ n. or-refused (put columns (λ c. c + n)) (before s q n))) (accepted-too-long (s .width) (length w) long);
+  too-long = λ s q w long. too-long (λ n. or-refused (put columns (λ c. c + n)) (before s q n)) (s .width) (length w) long;
   Sound = λ s q. Sound (s .height) (s .width) q;
   held = λ x. (x .paged, x .lined, x .spaced);
   opens = λ s. ((omega arith, omega arith), (omega arith, s .high .0), omega arith);
-  puts = λ s q w h. by-accepted (Good s q (length w)) (λ n. or-refused (put columns (λ c. c + n)) (before s q n)) (s .width) (length w) tt (puts-fitting s q (length w) h);
+  puts = λ s q w h. by-accepted (Good s q (length w)) (λ n. or-refused (put columns (λ c. c + n)) (before s q n)) (s .width) (length w) tt (λ some _ short. puts-fitting s q (length w) h some short);
   ends-paragraph = λ s q h. ends-paragraph (s .height) (s .width) columns q h (omega arith);
   ends-page = λ s q h. ends-page (s .height) (s .width) columns q h (omega arith);
 }

@@ -12,7 +12,7 @@ use Rattle.layout.specs.Spots.{at}
 use Rattle.layout.specs.Meaning.{Lawful, Proper, Outcome, placed}
 use Rattle.layout.specs.declared.refusal.Refusal.{Refusal}
 use Rattle.layouts.specs.Lines.{place, next-line, or-refused, put, Sound}
-use Rattle.layouts.specs.LineLaws.{accepted-too-long, by-accepted, nearest-in-range, Room, put-here, put-below, ends-paragraph, ends-page}
+use Rattle.layouts.specs.LineLaws.{by-accepted, too-long, nearest-in-range, Room, put-here, put-below, ends-paragraph, ends-page}
 use Rattle.layouts.specs.Forming.{forming, used-columns, before, put-cell}
 use Rattle.layouts.specs.declared.place.Place.{Place}
 use Rattle.layouts.specs.declared.form.state.Grid.{Grid}
@@ -57,11 +57,11 @@ forming-lawful = record {
   sized = λ s. ((s .high .0, omega arith), s .fits);
   marked = λ s k. k .paged;
   fronted = λ s q. nearest-in-range (q .page);
-  too-long = λ s q w long. ap (or-refused (λ n. or-refused (put-cell s) (before s q))) (accepted-too-long (s .width) (length w) long);
+  too-long = λ s q w long. too-long (λ n. or-refused (put-cell s) (before s q)) (s .width) (length w) long;
   Sound = λ s q. Sound (s .rows) (s .cells) q;
   held = λ x. (x .paged, x .lined, x .spaced);
   opens = λ s. ((omega arith, omega arith), (omega arith, s .high .0), omega arith);
-  puts = λ s q w h. by-accepted (Good s q (length w)) (λ n. or-refused (put-cell s) (before s q)) (s .width) (length w) tt (λ _. puts-fitting s q (length w) h);
+  puts = λ s q w h. by-accepted (Good s q (length w)) (λ n. or-refused (put-cell s) (before s q)) (s .width) (length w) tt (λ _ _ short. puts-fitting s q (length w) h short);
   ends-paragraph = λ s q h. ends-paragraph (s .rows) (s .cells) (used-columns s) q h (fewer-columns s (q .used) (s .cells) (h .2));
   ends-page = λ s q h. ends-page (s .rows) (s .cells) (used-columns s) q h (fewer-columns s (q .used) (s .cells) (h .2));
 }

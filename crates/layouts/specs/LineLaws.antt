@@ -1,6 +1,6 @@
 -- The laws of layouts, for what the line filler and the fixed form have in common.
---   accepted-too-long   no bytes, or more than 72, are too wide
---   by-accepted         what holds of a refusal, and of every word of 1 to width bytes, holds of every word
+--   by-accepted         what holds of a refusal, and of every word of 1 to 72 bytes that fits the width, holds of every word
+--   too-long            no bytes, or more than 72, are too wide
 --   nearest-in-range    the page nearest to any number is one
 --   Room                from c used on, a word of n bytes fits its line and its share of it
 --   put-here            a word put on the line of the place
@@ -16,7 +16,6 @@ use native.Mathlib.Omega.{arith}
 use lib.Dec.{ltb, eqb}
 use Rattle.std.proofs.shelf.Tests.{cond-both, or-parts, ltb-true, ltb-false, eqb-false}
 use Rattle.std.specs.declared.result.Result.{Result}
-use Rattle.std.specs.declared.result.Result.the-variants.{Err}
 use Rattle.layout.specs.Spots.{printed, nearest-page}
 use Rattle.layout.specs.Meaning.{Outcome, refused, Proper, Onward}
 use Rattle.layout.specs.declared.refusal.Refusal.{Refusal}
@@ -24,19 +23,17 @@ use Rattle.layout.specs.declared.refusal.Refusal.the-variants.{WordTooWide}
 use Rattle.layouts.specs.Lines.{place, accepted, next-line, paragraph-end, page-end, or-refused, put, front, Sound}
 use Rattle.layouts.specs.declared.place.Place.{Place}
 
-pub accepted-too-long : (width n : ℕ) → (n ≡ 0) ⊎ (72 < n) → accepted width n ≡ Err WordTooWide
-accepted-too-long width n long =
-    cond-both (eqb n 0 || (ltb 72 n || ltb width n)) _ _ (λ o. o ≡ Err WordTooWide) (λ _. refl)
-    (λ e. let a = or-parts (eqb n 0) (ltb 72 n || ltb width n) e in
-    let b = or-parts (ltb 72 n) (ltb width n) (a .1) in
-    absurd (⊎-elim (eqb-false n 0 (a .0)) (λ l. omega (arith, ltb-false 72 n (b .0))) long))
-
-pub by-accepted : (P : Outcome Place → Type 0) (f : ℕ → Outcome Place) (width n : ℕ) → P (refused WordTooWide) → (1 ≤ n → n ≤ width → P (f n)) → P (or-refused f (accepted width n))
+pub by-accepted : (P : Outcome Place → Type 0) (f : ℕ → Outcome Place) (width n : ℕ) → P (refused WordTooWide) → (1 ≤ n → n ≤ 72 → n ≤ width → P (f n)) → P (or-refused f (accepted width n))
 by-accepted P f width n wide fits =
     cond-both (eqb n 0 || (ltb 72 n || ltb width n)) _ _ (λ o. P (or-refused f o)) (λ _. wide)
     (λ e. let a = or-parts (eqb n 0) (ltb 72 n || ltb width n) e in
     let b = or-parts (ltb 72 n) (ltb width n) (a .1) in
-    fits (omega (arith, eqb-false n 0 (a .0))) (ltb-false width n (b .1)))
+    fits (omega (arith, eqb-false n 0 (a .0))) (ltb-false 72 n (b .0)) (ltb-false width n (b .1)))
+
+pub too-long : (f : ℕ → Outcome Place) (width n : ℕ) → (n ≡ 0) ⊎ (72 < n) → or-refused f (accepted width n) ≡ refused WordTooWide
+too-long f width n long =
+    by-accepted (λ o. o ≡ refused WordTooWide) f width n refl
+    (λ some few _. absurd (⊎-elim (λ e. omega arith) (λ l. omega arith) long))
 
 pub nearest-in-range : (p : ℕ) → (1 ≤ nearest-page p) × (nearest-page p ≤ 999)
 nearest-in-range p = (omega arith, omega arith)
