@@ -13,8 +13,10 @@ pub trait Layout {
     // The letter that names the kind of layout.
     const LETTER: u8;
 
+    // Settings and place, and what each call makes of them.
     ghost meaning: { Meaning Self Self·Mark };
 
+    // The laws, which each `impl` shows.
     ghost lawful: { Lawful meaning };
 
     // `LETTER`, with a contract, which a constant cannot have.
@@ -29,9 +31,11 @@ pub trait Layout {
     fn set(&mut self, word: &[u8]) -> Result<Self::Mark, Refusal>
         ensures { λ r. ⌜ Word-set meaning (now (self .entry)) (now (self .exit)) (now (word .entry)) r ⌝ };
 
+    // Ends the paragraph, and never refuses.
     fn end_paragraph(&mut self)
         ensures { λ _. ⌜ Paragraph-ended meaning (now (self .entry)) (now (self .exit)) ⌝ };
 
+    // Ends the page, and never refuses.
     fn end_page(&mut self)
         ensures { λ _. ⌜ Page-ended meaning (now (self .entry)) (now (self .exit)) ⌝ };
 
