@@ -4,6 +4,7 @@ ghost use Rattle.std.specs.Of.String.{string-bytes};
 ghost use Rattle.std.specs.Vec.{made};
 ghost use Rattle.replay.specs.Answers.{fault-line, counts-line, check-line};
 use crate::hex::decode;
+use crate::steps::layout_line;
 use faults::Fault;
 use manuscript::Counts;
 use manuscript::check;
@@ -11,7 +12,7 @@ use std::alloc::AllocError;
 use std::alloc::Global;
 
 // Number, layer, line, the name's offset and length, and pass.
-fn fault_line(heap: Global, fault: Fault) -> Result<String, AllocError>
+pub fn fault_line(heap: Global, fault: Fault) -> Result<String, AllocError>
     ensures { λ r. ⌜ made r (λ s. string-bytes s ≡ fault-line fault) ⌝ }
 {
     let number = fault.cause.number();
@@ -44,16 +45,27 @@ fn check_line(heap: Global, text: &[u8]) -> Result<String, AllocError>
     }
 }
 
-// The answer to one request line.
-pub fn answer(heap: Global, request: &str) -> Result<String, AllocError> {
-    let mut words = request.split(' ');
-    let command = words.next().unwrap_or("");
-    let argument = words.next().unwrap_or("");
-    let Some(bytes) = decode(heap, argument.as_bytes())? else {
-        return String::from_str(heap, "unreadable");
+// The answer to a request for a check of bytes in hexadecimal.
+fn answer_check(heap: Global, digits: &str) -> Result<Option<String>, AllocError> {
+    let Some(text) = decode(heap, digits.as_bytes())? else {
+        return Ok(None);
     };
-    match command {
-        "check" => check_line(heap, &bytes),
-        _ => String::from_str(heap, "unknown"),
+    Ok(Some(check_line(heap, &text)?))
+}
+
+// The answer to one request line: a command, an argument, and what follows them.
+pub fn answer(heap: Global, request: &str) -> Result<String, AllocError> {
+    let words: Vec<&str> = request.split(' ').collect(heap)?;
+    if words.len() < 2 {
+        return String::from_str(heap, "unreadable");
+    }
+    let reply = match words[0] {
+        "check" => answer_check(heap, words[1])?,
+        "layout" => layout_line(heap, words[1], &words[2..])?,
+        _ => None,
+    };
+    match reply {
+        Some(line) => Ok(line),
+        None => String::from_str(heap, "unreadable"),
     }
 }
