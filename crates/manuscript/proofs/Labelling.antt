@@ -37,15 +37,15 @@ use Rattle.manuscript.specs.declared.counts.Counts.{Counts}
 use Rattle.manuscript.specs.Labelled.{is-label, defines, definitions, named, Labelled}
 
 -- how often a name stands among names
-abbrev occurs : List ℕ → List (List ℕ) → ℕ
+abbrev pub occurs : List ℕ → List (List ℕ) → ℕ
 occurs n [] = 0
 occurs n (m ∷ ms) = cond (sameBytes m n) 1 0 + occurs n ms
 
-abbrev Once : List (List ℕ) → Type 0
+abbrev pub Once : List (List ℕ) → Type 0
 Once names = (n : List ℕ) → occurs n names ≤ 1
 
 -- the names that marks define
-abbrev labels-of : List Marking → List (List ℕ)
+abbrev pub labels-of : List Marking → List (List ℕ)
 labels-of [] = []
 labels-of (m ∷ ms) = cond (is-label (m .mark)) (m .name ∷ labels-of ms) (labels-of ms)
 
@@ -53,7 +53,7 @@ put-append : (b : Bool) (x : List ℕ) (l m n : List (List ℕ)) → l ≡ m ++ 
 put-append true x l m n e = ap (λ k. x ∷ k) e
 put-append false x l m n e = e
 
-labels-append : (xs ys : List Marking) → labels-of (xs ++ ys) ≡ labels-of xs ++ labels-of ys
+pub labels-append : (xs ys : List Marking) → labels-of (xs ++ ys) ≡ labels-of xs ++ labels-of ys
 labels-append [] ys = refl
 labels-append (x ∷ xs) ys = put-append (is-label (x .mark)) _ _ _ _ (labels-append xs ys)
 
@@ -62,7 +62,7 @@ put-count : (b c : Bool) (n m : List ℕ) (k : ℕ) (l : List (List ℕ)) → k 
 put-count true c n m k l e s = λ i. cond (sym s i) 1 0 + e i
 put-count false c n m k l e s = omega arith
 
-definitions-occur : (n : List ℕ) (ms : List Marking) → definitions n ms ≡ occurs n (labels-of ms)
+pub definitions-occur : (n : List ℕ) (ms : List Marking) → definitions n ms ≡ occurs n (labels-of ms)
 definitions-occur n [] = refl
 definitions-occur n (m ∷ ms) = put-count (is-label (m .mark)) _ n (m .name) _ _ (definitions-occur n ms) refl
 
@@ -71,7 +71,7 @@ more : (b : Bool) {r : Bool} {k : ℕ} → (r ≡ true → 1 ≤ k) → (b || r)
 more true f h = omega arith
 more false f h = omega (arith, f h)
 
-occurs-some : (n : List ℕ) (l : List (List ℕ)) → among n l ≡ true → 1 ≤ occurs n l
+pub occurs-some : (n : List ℕ) (l : List (List ℕ)) → among n l ≡ true → 1 ≤ occurs n l
 occurs-some n [] h = let z : _≡_ {A = ℕ} 0 1 = cc in absurd (omega arith)
 occurs-some n (m ∷ ms) h = more (sameBytes m n) (λ e. occurs-some n ms e) h
 
@@ -79,16 +79,16 @@ none-more : (b r : Bool) (k : ℕ) → (r ≡ false → k ≡ 0) → (b || r) �
 none-more true r k f h = let z : _≡_ {A = ℕ} 0 1 = cc in absurd (omega arith)
 none-more false r k f h = omega (arith, f h)
 
-occurs-none : (n : List ℕ) (l : List (List ℕ)) → among n l ≡ false → occurs n l ≡ 0
+pub occurs-none : (n : List ℕ) (l : List (List ℕ)) → among n l ≡ false → occurs n l ≡ 0
 occurs-none n [] h = refl
 occurs-none n (m ∷ ms) h = none-more (sameBytes m n) (among n ms) (occurs n ms) (λ e. occurs-none n ms e) h
 
-occurs-push : (n : List ℕ) (l : List (List ℕ)) (m : List ℕ) → occurs n (l ++ m ∷ []) ≡ occurs n l + cond (sameBytes m n) 1 0
+pub occurs-push : (n : List ℕ) (l : List (List ℕ)) (m : List ℕ) → occurs n (l ++ m ∷ []) ≡ occurs n l + cond (sameBytes m n) 1 0
 occurs-push n [] m = omega arith
 occurs-push n (x ∷ xs) m = omega (arith, occurs-push n xs m)
 
 -- a name that is not among others may join them
-once-push : (l : List (List ℕ)) (m : List ℕ) → among m l ≡ false → Once l → Once (l ++ m ∷ [])
+pub once-push : (l : List (List ℕ)) (m : List ℕ) → among m l ≡ false → Once l → Once (l ++ m ∷ [])
 once-push l m new once n =
     ⊎-elim
     (λ e.
@@ -100,11 +100,11 @@ once-push l m new once n =
     (cases-bool (sameBytes m n))
 
 -- what one step of the scan adds to the labels, and that they stay apart
-record Adds (s : Seen) (ms : List Marking) (s′ : Seen) : Type 0 where
-  grown : s′ .labels ≡ s .labels ++ labels-of ms
-  apart : Once (s .labels) → Once (s′ .labels)
+pub record Adds (s : Seen) (ms : List Marking) (s′ : Seen) : Type 0 where
+  pub grown : s′ .labels ≡ s .labels ++ labels-of ms
+  pub apart : Once (s .labels) → Once (s′ .labels)
 
-adds-none : (s s′ : Seen) → s′ .labels ≡ s .labels → Adds s [] s′
+pub adds-none : (s s′ : Seen) → s′ .labels ≡ s .labels → Adds s [] s′
 adds-none s s′ e = record { grown = e ∙ sym (append-nil (s .labels)); apart = λ o. subst Once (sym e) o }
 
 adds-both : {s s′ s″ : Seen} {xs ys : List Marking} → Adds s xs s′ → Adds s′ ys s″ → Adds s (xs ++ ys) s″
@@ -114,22 +114,22 @@ adds-both {s} {s′} {s″} {xs} {ys} a b =
       apart = λ o. b .apart (a .apart o);
     }
 
-refused : {E X A : Type 0} {e : E} {x : X} → _≡_ {A = Result X E} (Err e) (Ok x) → A
+pub refused : {E X A : Type 0} {e : E} {x : X} → _≡_ {A = Result X E} (Err e) (Ok x) → A
 refused h = let z : _≡_ {A = ℕ} 0 1 = cc in absurd (omega arith)
 
-same-ok : {E X : Type 0} {x y : X} → _≡_ {A = Result X E} (Ok x) (Ok y) → x ≡ y
+pub same-ok : {E X : Type 0} {x y : X} → _≡_ {A = Result X E} (Ok x) (Ok y) → x ≡ y
 same-ok h = cc
 
-then-ok : {X Y E : Type 0} (r : Result X E) (f : X → Result Y E) (y : Y) → then r f ≡ Ok y → (x : X) × (r ≡ Ok x) × (f x ≡ Ok y)
+pub then-ok : {X Y E : Type 0} (r : Result X E) (f : X → Result Y E) (y : Y) → then r f ≡ Ok y → (x : X) × (r ≡ Ok x) × (f x ≡ Ok y)
 then-ok (Ok x) f y h = (x, refl, h)
 then-ok (Err e) f y h = refused h
 
 -- a test that let an answer through was false, or true
-passed-by : {X E : Type 0} (b : Bool) (e : E) (r : Result X E) (x : X) → cond b (Err e) r ≡ Ok x → (b ≡ false) × (r ≡ Ok x)
+pub passed-by : {X E : Type 0} (b : Bool) (e : E) (r : Result X E) (x : X) → cond b (Err e) r ≡ Ok x → (b ≡ false) × (r ≡ Ok x)
 passed-by true e r x h = refused h
 passed-by false e r x h = (refl, h)
 
-let-through : {X E : Type 0} (b : Bool) (e : E) (r : Result X E) (x : X) → cond b r (Err e) ≡ Ok x → r ≡ Ok x
+pub let-through : {X E : Type 0} (b : Bool) (e : E) (r : Result X E) (x : X) → cond b r (Err e) ≡ Ok x → r ≡ Ok x
 let-through true e r x h = h
 let-through false e r x h = refused h
 
@@ -145,26 +145,26 @@ marked-adds Label l span name s s′ h = defined-adds l span name s s′ h
 marked-adds Page l span name s s′ h = let a = adds-none s s′ (ap (λ (x : Seen). x .labels) (sym (same-ok h))) in record { grown = a .grown; apart = a .apart }
 marked-adds Number l span name s s′ h = let a = adds-none s s′ (ap (λ (x : Seen). x .labels) (sym (same-ok h))) in record { grown = a .grown; apart = a .apart }
 
-noted-adds : (l : SourceLine) (w : SourceWord) (p : Parts) (s s′ : Seen) → noted l w p s ≡ Ok s′ → Adds s (marking l w p) s′
+pub noted-adds : (l : SourceLine) (w : SourceWord) (p : Parts) (s s′ : Seen) → noted l w p s ≡ Ok s′ → Adds s (marking l w p) s′
 noted-adds l w (Err e) s s′ h = refused h
 noted-adds l w (Ok None) s s′ h = adds-none s s′ (ap (λ (x : Seen). x .labels) (sym (same-ok h)))
 noted-adds l w (Ok (Some m)) s s′ h = marked-adds (m .mark) (l .number) _ (m .name) s s′ h
 
-words-add : (title : Bool) (l : SourceLine) (ws : List SourceWord) (s s′ : Seen) → scan-words title l ws s ≡ Ok s′ → Adds s (word-marks title l ws) s′
+pub words-add : (title : Bool) (l : SourceLine) (ws : List SourceWord) (s s′ : Seen) → scan-words title l ws s ≡ Ok s′ → Adds s (word-marks title l ws) s′
 words-add title l [] s s′ h = adds-none s s′ (ap (λ (x : Seen). x .labels) (sym (same-ok h)))
 words-add title l (w ∷ ws) s s′ h =
     let r = then-ok (noted l w (parts title (w .bytes)) s) (λ x. scan-words title l ws x) s′ h in
     adds-both (noted-adds l w (parts title (w .bytes)) s (r .0) (r .1)) (words-add title l ws (r .0) s′ (r .2))
 
 -- what a line's kind asks leaves the labels alone
-abbrev Keeps : Seen → Result Seen Fault → Type 0
+abbrev pub Keeps : Seen → Result Seen Fault → Type 0
 Keeps s r = made r (λ x. x .labels ≡ s .labels)
 
 keeps-either : (b : Bool) (s : Seen) (p q : Result Seen Fault) → Keeps s p → Keeps s q → Keeps s (cond b p q)
 keeps-either true s p q h k = h
 keeps-either false s p q h k = k
 
-entered-keeps : (k : Kind) (l : SourceLine) (s : Seen) → Keeps s (entered k l s)
+pub entered-keeps : (k : Kind) (l : SourceLine) (s : Seen) → Keeps s (entered k l s)
 entered-keeps Heading l s = keeps-either (titled (l .bytes)) s _ _ (keeps-either (ltb (s .headings) 128) s _ _ refl tt) tt
 entered-keeps Directive l s =
     keeps-either (sameBytes (l .bytes) (codes "!contents")) s _ _ (keeps-either (s .contents) s _ _ tt refl)
@@ -172,12 +172,12 @@ entered-keeps Directive l s =
 entered-keeps Remark l s = refl
 entered-keeps Text l s = refl
 
-line-adds : (l : SourceLine) (s s′ : Seen) → scan-line l s ≡ Ok s′ → Adds s (line-marks l) s′
+pub line-adds : (l : SourceLine) (s s′ : Seen) → scan-line l s ≡ Ok s′ → Adds s (line-marks l) s′
 line-adds l s s′ h =
     let r = then-ok (entered (kind (l .bytes)) l s) (λ x. scan-words (is-title (l .bytes)) l (line-words (l .bytes)) x) s′ (let-through _ _ _ s′ h) in
     adds-both (adds-none s (r .0) (subst (Keeps s) (r .1) (entered-keeps (kind (l .bytes)) l s))) (words-add (is-title (l .bytes)) l (line-words (l .bytes)) (r .0) s′ (r .2))
 
-lines-add : (ls : List SourceLine) (s s′ : Seen) → scan-lines ls s ≡ Ok s′ → Adds s (text-marks ls) s′
+pub lines-add : (ls : List SourceLine) (s s′ : Seen) → scan-lines ls s ≡ Ok s′ → Adds s (text-marks ls) s′
 lines-add [] s s′ h = adds-none s s′ (ap (λ (x : Seen). x .labels) (sym (same-ok h)))
 lines-add (l ∷ ls) s s′ h =
     let r = then-ok (scan-line l s) (λ x. scan-lines ls x) s′ h in
@@ -196,7 +196,7 @@ short : (b : Bool) (e : Fault) (r : Result Counts Fault) → isOk (cond b (Err e
 short true e r h = let z : _≡_ {A = ℕ} 0 1 = cc in absurd (omega arith)
 short false e r h = h
 
-accepted : (t : List ℕ) → isOk (checked t) ≡ true → (s : Seen) × (scan-lines (lines t) nothing ≡ Ok s) × (dangling (s .labels) (marks t) ≡ None)
+pub accepted : (t : List ℕ) → isOk (checked t) ≡ true → (s : Seen) × (scan-lines (lines t) nothing ≡ Ok s) × (dangling (s .labels) (marks t) ≡ None)
 accepted t h = scanned t (scan-lines (lines t) nothing) (short (ltb 60000 (length t)) _ _ h)
 
 none-cond : {X : Type 0} (b : Bool) (x : X) (o : Option X) → cond b (Some x) o ≡ None → (b ≡ false) × (o ≡ None)

@@ -1,3 +1,5 @@
 pub mod Tables
 pub mod Danglings
 pub mod Labelling
+pub mod Keeping
+pub mod Completing

@@ -3,3 +3,4 @@ pub mod Scanning
 pub mod Checking
 pub mod Values
 pub mod Labelled
+pub mod Rules

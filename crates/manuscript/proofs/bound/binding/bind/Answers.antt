@@ -7,5 +7,5 @@ use Rattle.manuscript.proofs.bound.binding.bind.Needs as need
 
 pub ghost-result : need.ghost-result
 ghost-result c =
-    let ok : isOk (checked (c .args .bytes .now)) ≡ true = ap isOk (sym (c .check .ensures)) ∙ sym (c .if-is-ok .ensures tt .value) in
+    let ok : isOk (checked (c .args .bytes .now)) ≡ true = ap isOk (sym (c .check .ensures .value)) ∙ sym (c .if-is-ok .ensures tt .value) in
     (ok, (labelled (c .args .bytes .now) ok, tt))
