@@ -25,6 +25,7 @@ decimal-short n =
     cond-both (ltb n 10) _ _ P (λ _. omega arith) (λ _. cond-both (ltb n 100) _ _ P (λ _. omega arith) (λ _. omega arith))
 
 pub level-bound : (level : ℕ) (cs : Counters) → number-ok level cs ≡ true → level ≤ 3
+unfolding number-ok
 level-bound level cs h = grind (arith, tells)
 
 short : ℕ → Bool

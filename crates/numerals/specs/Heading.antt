@@ -34,4 +34,5 @@ deep : number-text 3 (record { first = 12; second = 0; third = 128 }) ≡ codes 
 deep = refl
 
 unsound : number-ok 2 (record { first = 1; second = 0; third = 0 }) ≡ false
+unfolding number-ok
 unsound = refl

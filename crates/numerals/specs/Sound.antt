@@ -5,7 +5,7 @@ use Prim.Native.Nat.{ℕ}
 use lib.Dec.{leb, eqb}
 use Rattle.numerals.specs.declared.counters.Counters.{Counters}
 
-abbrev pub number-ok : ℕ → Counters → Bool
+unfoldable pub number-ok : ℕ → Counters → Bool
 number-ok level cs =
     let a = cs .first in
     let b = cs .second in

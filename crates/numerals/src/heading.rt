@@ -4,6 +4,8 @@ ghost use mathlib.Core.Bool.{true};
 ghost use Rattle.numerals.specs.Sound.{number-ok};
 use crate::counters::Counters;
 
+pub use makes::HeadingNumberPartialEq;
+
 mod makes;
 
 #[derive(Clone, Copy)]

@@ -2,6 +2,7 @@
 pub use counters::Counters;
 pub use counters::CountersPartialEq;
 pub use heading::HeadingNumber;
+pub use heading::HeadingNumberPartialEq;
 pub use pages::numeral_laws;
 pub use pages::page_numeral;
 pub use style::NumeralStyle;

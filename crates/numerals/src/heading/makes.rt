@@ -1,9 +1,11 @@
 // How a heading's number is made.
 ghost use mathlib.Core.Path.{_≡_};
+ghost use Rattle.std.specs.Orderings.{Decides};
 ghost use Rattle.numerals.specs.Heading.{Numbers};
 ghost use Rattle.numerals.specs.Sound.{number-ok};
 use super::HeadingNumber;
 use crate::counters::Counters;
+use crate::counters::CountersPartialEq;
 
 // Whether the counters are as the level asks. No `&&`: every way that parts would be one more case to prove.
 fn number_ok(level: u8, counters: Counters) -> bool
@@ -44,5 +46,13 @@ impl HeadingNumber {
                 third: 0,
             },
         }
+    }
+}
+
+pub impl PartialEq<HeadingNumber> for HeadingNumber as HeadingNumberPartialEq {
+    ghost equals = { λ x y r. Decides r (x ≡ y) };
+
+    fn eq(&self, other: &HeadingNumber) -> bool {
+        self.level == other.level && self.counters == other.counters
     }
 }

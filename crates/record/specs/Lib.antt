@@ -1,0 +1,7 @@
+pub mod Right
+pub mod Naming
+pub mod Positions
+pub mod Labels
+pub mod Meaning
+pub mod Lists
+pub mod Differ
