@@ -41,6 +41,7 @@ module _ (o : List ℕ) (at : ℕ) (a : List ℕ) (h : at + length a ≤ length 
 
 -- two calls that write, the second where the first ended
 pub then-written : (o : List ℕ) (at : ℕ) (a b : List ℕ) {p q : List ℕ} {m n : ℕ} → at + length a ≤ length o → m ≡ at + length a → p ≡ written o at a → n ≡ m + length b → q ≡ written p m b → (n ≡ at + length (a ++ b)) × (q ≡ written o at (a ++ b))
-then-written o at a b h e w f v =
-    ( simp length-append (omega arith)
-    , v ∙ (λ i. written (w i) (e i) b) ∙ written-more o at a h b )
+then-written o at a b h e w f v = (
+  simp length-append (omega arith),
+  v ∙ (λ i. written (w i) (e i) b) ∙ written-more o at a h b,
+)

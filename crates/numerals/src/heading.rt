@@ -3,7 +3,6 @@ ghost use mathlib.Core.Path.{_≡_};
 ghost use mathlib.Core.Bool.{true};
 ghost use Rattle.numerals.specs.Sound.{number-ok};
 use crate::counters::Counters;
-
 pub use makes::HeadingNumberPartialEq;
 
 mod makes;

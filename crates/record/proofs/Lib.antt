@@ -4,3 +4,4 @@ pub mod Padding
 pub mod Places
 pub mod Whole
 pub mod Filling
+pub mod Apart

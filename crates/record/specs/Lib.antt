@@ -5,3 +5,4 @@ pub mod Labels
 pub mod Meaning
 pub mod Lists
 pub mod Differ
+pub mod Records

@@ -3,7 +3,6 @@ ghost use mathlib.Core.Path.{_≡_};
 ghost use Prim.Native.Nat.{_≤_};
 use crate::name::Name;
 use numerals::HeadingNumber;
-
 pub use same::ContentsEntryEntry;
 pub use same::LabelEntryEntry;
 

@@ -7,9 +7,11 @@ pub use entry::LabelEntry;
 pub use entry::LabelEntryEntry;
 pub use name::Name;
 pub use name::NamePartialEq;
+pub use record::Record;
 pub use table::Table;
 
 mod compare;
 mod entry;
 mod name;
+mod record;
 mod table;

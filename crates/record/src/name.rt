@@ -4,7 +4,6 @@ ghost use Prim.Native.Nat.{_-_, _≤_};
 ghost use lib.ListN.{length, take, drop, replicate};
 ghost use mathlib.Core.Bool.{true};
 ghost use Rattle.record.specs.Right.{name-ok};
-
 pub use makes::NamePartialEq;
 
 mod makes;

@@ -27,19 +27,21 @@ loop-row-again-then-value-rest c =
     let w = joined letters (chosen (drop (c .loop-row .row) rows) (c .loop-row .rest - row .0)) in
     let long = simp length-append at (ap length e) in
     let room : end + length (letters row) ≤ length out = omega (arith, c .loop-row .inv .1, c .loop-row .inv .2, long) in
-    let wrote = c .write-letters-end .ensures in
-    ( (λ i. written (wrote .after i) (wrote .end i) w) ∙ written-more out end (letters row) room w ∙ ap (written out end) (sym e) ∙ c .loop-row .inv .0
-    , omega (arith, long, c .loop-row .inv .1, wrote .end)
-    , ap length (wrote .after) ∙ length-written out end (letters row) room ∙ c .loop-row .inv .2
-    , c .loop-row .inv .3 )
+    let wrote = c .write-letters-end .ensures in (
+      (λ i. written (wrote .after i) (wrote .end i) w) ∙ written-more out end (letters row) room w ∙ ap (written out end) (sym e) ∙ c .loop-row .inv .0,
+      omega (arith, long, c .loop-row .inv .1, wrote .end),
+      ap length (wrote .after) ∙ length-written out end (letters row) room ∙ c .loop-row .inv .2,
+      c .loop-row .inv .3,
+    )
 
 pub loop-row-again : need.loop-row-again
 loop-row-again c =
-    let e = ap (joined letters) (passes _ _ (c .row-at-value .result) (c .loop-row-test .taken) (c .row-at-value .ensures .row) (c .if-value-rest .left)) in
-    ( ap (written (c .loop-row .out) (c .loop-row .end)) (sym e) ∙ c .loop-row .inv .0
-    , ap (λ l. c .loop-row .end + length l) (sym e) ∙ c .loop-row .inv .1
-    , c .loop-row .inv .2
-    , omega arith )
+    let e = ap (joined letters) (passes _ _ (c .row-at-value .result) (c .loop-row-test .taken) (c .row-at-value .ensures .row) (c .if-value-rest .left)) in (
+      ap (written (c .loop-row .out) (c .loop-row .end)) (sym e) ∙ c .loop-row .inv .0,
+      ap (λ l. c .loop-row .end + length l) (sym e) ∙ c .loop-row .inv .1,
+      c .loop-row .inv .2,
+      omega arith,
+    )
 
 pub returns : need.returns
 returns c =

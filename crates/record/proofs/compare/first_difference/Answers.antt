@@ -14,10 +14,10 @@ returns-then-not-matches g c =
     let la : c .loop-i .i < length (c .args .a .now) = omega arith in
     let lb : c .loop-i .i < length (c .args .b .now) = omega arith in
     let apart : x ≡ y → ⊥ = λ e.
-        let equal = subst (λ z. g .E·Entry .equal x z) e (g .E·Entry·met .whole x) in
-        let t : c .matches .result ≡ true = c .matches .ensures .1 equal in
-        let f = c .if-not-matches .taken in
-        let z : _≡_ {A = ℕ} 0 1 = cc in omega arith in
+    let equal = subst (λ z. g .E·Entry .equal x z) e (g .E·Entry·met .whole x) in
+    let t : c .matches .result ≡ true = c .matches .ensures .1 equal in
+    let f = c .if-not-matches .taken in
+    let z : _≡_ {A = ℕ} 0 1 = cc in omega arith in
     (c .loop-i .inv, λ e. apart (at-front _ _ _ _ _ la lb (c .index-a-i .is) (c .index-b-i .is) e))
 
 pub loop-i-again : need.loop-i-again
@@ -40,6 +40,7 @@ pub returns-else-a-b : need.returns-else-a-b
 returns-else-a-b g c =
     let a = c .args .a .now in
     let b = c .args .b .now in
-    let n : c .loop-i .i ≡ c .min-n .result = omega arith in
-    ( subst (λ k. take k a ≡ take k b) n (c .loop-i .inv)
-    , rw (c .min-n .ensures) (end-apart a b (c .if-a-b .left)) )
+    let n : c .loop-i .i ≡ c .min-n .result = omega arith in (
+      subst (λ k. take k a ≡ take k b) n (c .loop-i .inv),
+      rw (c .min-n .ensures) (end-apart a b (c .if-a-b .left)),
+    )

@@ -9,9 +9,10 @@ ghost-result c =
     let ok = right-ok text (c .in-Right .ensures tt) in
     let few = name-length text ok .1 in
     let end = c .write-end .ensures .end in
-    let after = c .write-end .ensures .after in
-    ( padded-long text _ _ few end after
-    , (ap name-ok (padded-front text _ _ few end after) ∙ ok, (padded-rest text _ _ few end after, tt)) )
+    let after = c .write-end .ensures .after in (
+      padded-long text _ _ few end after,
+      (ap name-ok (padded-front text _ _ few end after) ∙ ok, (padded-rest text _ _ few end after, tt)),
+    )
 
 pub returns-in-Right : need.returns-in-Right
 returns-in-Right c =

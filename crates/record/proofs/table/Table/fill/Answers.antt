@@ -16,6 +16,7 @@ returns-then-i-len c =
 pub returns : need.returns
 returns c =
     let v = c .args .self .now .labels in
-    let within : c .args .i < length (v .items) = omega (arith, v .ok .0) in
-    ( (omega (arith, length-map (v .items) label-of), omega (arith, c .if-page-eq0 .left), c .if-page-gt999 .left)
-    , lists-same _ _ (filled (v .items) (c .args .i) (c .entry-entry .result .now) _ within (c .entry-entry .ensures) refl) refl )
+    let within : c .args .i < length (v .items) = omega (arith, v .ok .0) in (
+      (omega (arith, length-map (v .items) label-of), omega (arith, c .if-page-eq0 .left), c .if-page-gt999 .left),
+      lists-same _ _ (filled (v .items) (c .args .i) (c .entry-entry .result .now) _ within (c .entry-entry .ensures) refl) refl,
+    )

@@ -25,7 +25,7 @@ returns c =
     changes-on _ _ _ _ before _ _ _
     (omega (arith, more, long), one, c .if-page-gt999 .left)
     (added .0, one, c .if-page-gt999 .left)
-    ( ap (λ (l : Lists). put-position l n position) (added .1)
+    (ap (λ (l : Lists). put-position l n position) (added .1)
     ∙ ap (λ k. put-position (with-label before blank) k position) (sym long)
-    ∙ lists-same _ _ (last-filled (before .labels) blank position) refl )
+    ∙ lists-same _ _ (last-filled (before .labels) blank position) refl)
     (c .fill .ensures)
