@@ -5,3 +5,4 @@ pub mod Places
 pub mod Whole
 pub mod Filling
 pub mod Apart
+pub mod Facts

@@ -1,7 +1,7 @@
 // How a table is made, emptied, read and added to.
 ghost use mathlib.Core.Path.{_≡_};
 ghost use mathlib.Core.List.{map};
-ghost use Prim.Native.Nat.{_<_};
+ghost use Prim.Native.Nat.{_<_, _≤_};
 ghost use lib.ListN.{length};
 ghost use Rattle.std.specs.Vec.{made};
 ghost use Rattle.record.specs.Lists.{lists-of, no-entries, with-label, with-heading, Changes};
@@ -30,13 +30,15 @@ impl Table {
     }
 
     pub fn labels(&self) -> &[LabelEntry]
-        ensures { λ r. ⌜ map label-of (now r) ≡ lists-of (now (self .entry)) .labels ⌝ }
+        ensures value { λ r. ⌜ map label-of (now r) ≡ lists-of (now (self .entry)) .labels ⌝ }
+        ensures bound { λ r. ⌜ length (now r) ≤ 128 ⌝ }
     {
         self.labels.as_slice()
     }
 
     pub fn contents(&self) -> &[ContentsEntry]
-        ensures { λ r. ⌜ map position-of (now r) ≡ lists-of (now (self .entry)) .contents ⌝ }
+        ensures value { λ r. ⌜ map position-of (now r) ≡ lists-of (now (self .entry)) .contents ⌝ }
+        ensures bound { λ r. ⌜ length (now r) ≤ 128 ⌝ }
     {
         self.contents.as_slice()
     }
