@@ -30,7 +30,7 @@ absent-push n (x ∷ ls) l e f =
     let p = none-parts _ (place-of n ls) e in
     ap (λ b. cond b (Some 0) (later 1 (place-of n (ls ++ (l ∷ []))))) (p .0) ∙ ap (later 1) (absent-push n ls l (p .1) f)
 
-none-some : (o : Option ℕ) → not (isSome o) ≡ true → o ≡ None
+pub none-some : (o : Option ℕ) → not (isSome o) ≡ true → o ≡ None
 none-some None e = refl
 none-some (Some i) e = absurd (let z : _≡_ {A = ℕ} 0 1 = cc in omega arith)
 

@@ -43,6 +43,20 @@ impl Table {
         self.contents.as_slice()
     }
 
+    pub fn label_count(&self) -> usize
+        ensures value { λ r. ⌜ r ≡ length (lists-of (now (self .entry)) .labels) ⌝ }
+        ensures bound { λ r. ⌜ r ≤ 128 ⌝ }
+    {
+        self.labels.len()
+    }
+
+    pub fn contents_count(&self) -> usize
+        ensures value { λ r. ⌜ r ≡ length (lists-of (now (self .entry)) .contents) ⌝ }
+        ensures bound { λ r. ⌜ r ≤ 128 ⌝ }
+    {
+        self.contents.len()
+    }
+
     // Adds a label entry at the end, and answers whether there was room.
     pub fn add_label(&mut self, entry: LabelEntry) -> bool
         ensures { λ r. ⌜ Changes r (length (lists-of (now (self .entry)) .labels) < 128) (with-label (lists-of (now (self .entry))) (label-of entry)) (lists-of (now (self .entry))) (lists-of (now (self .exit))) ⌝ }
