@@ -6,7 +6,7 @@ use Prim.Native.Nat.{ℕ, zero, suc, _<_, _≤_}
 use native.Mathlib.Omega.{arith}
 use lib.Dec.{leb, ltb, T}
 use lib.ListN.{length, take}
-use Rattle.std.proofs.shelf.Tests.{cond-both, leb-true, le-leb, and-from}
+use Rattle.std.proofs.shelf.Tests.{cond-both, leb-true, le-leb, and-from, and-parts}
 use Rattle.std.proofs.shelf.Ways.{tells, decides-below-and, when-true}
 use Rattle.std.specs.Orderings.{When}
 use Rattle.std.specs.declared.option.Option.{Option}
@@ -27,6 +27,14 @@ decimal-short n =
 pub level-bound : (level : ℕ) (cs : Counters) → number-ok level cs ≡ true → level ≤ 3
 unfolding number-ok
 level-bound level cs h = grind (arith, tells)
+
+pub counters-bound : (level : ℕ) (cs : Counters) → number-ok level cs ≡ true → (cs .first ≤ 128) × (cs .second ≤ 128) × (cs .third ≤ 128)
+unfolding number-ok
+counters-bound level cs h =
+    let p = and-parts (leb (cs .first) 128 && (leb (cs .second) 128 && leb (cs .third) 128)) _ h in
+    let q = and-parts (leb (cs .first) 128) _ (p .0) in
+    let r = and-parts (leb (cs .second) 128) _ (q .1) in
+    (leb-true _ 128 (q .0), leb-true _ 128 (r .0), leb-true _ 128 (r .1))
 
 short : ℕ → Bool
 short zero = true

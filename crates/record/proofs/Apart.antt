@@ -51,3 +51,15 @@ none-is-left o (Some i) b e s f = absurd (let z : _≡_ {A = ℕ} 0 1 = cc in om
 pub changes-apart : (r : Bool) (P : Type 0) (ls after : Lists) (l : Label) → Changes r P (with-label ls l) ls after → place-of (l .name) (ls .labels) ≡ None → distinct (ls .labels) ≡ true → distinct (after .labels) ≡ true
 changes-apart true P ls after l h e d = ap (λ (x : Lists). distinct (x .labels)) (h .1) ∙ distinct-push (ls .labels) l e d
 changes-apart false P ls after l h e d = ap (λ (x : Lists). distinct (x .labels)) (h .1) ∙ d
+
+absent-inside : (n : List ℕ) (xs : List Label) (l : Label) (ys : List Label) → place-of n (xs ++ (l ∷ ys)) ≡ None → sameBytes (l .name) n ≡ false
+absent-inside n [] l ys e = none-parts _ (place-of n ys) e .0
+absent-inside n (x ∷ xs) l ys e = absent-inside n xs l ys (none-parts _ (place-of n (xs ++ (l ∷ ys))) e .1)
+
+-- of distinct names, none stands before itself
+pub absent-before : (xs : List Label) (l : Label) (ys : List Label) → distinct (xs ++ (l ∷ ys)) ≡ true → place-of (l .name) xs ≡ None
+absent-before [] l ys d = refl
+absent-before (x ∷ xs) l ys d =
+    let q = and-parts (not (isSome (place-of (x .name) (xs ++ (l ∷ ys))))) (distinct (xs ++ (l ∷ ys))) d in
+    let apart = same-either-way (x .name) (l .name) ∙ absent-inside (x .name) xs l ys (none-some _ (q .0)) in
+    (λ i. cond (apart i) (Some 0) (later 1 (absent-before xs l ys (q .1) i)))
