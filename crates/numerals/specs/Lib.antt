@@ -1,0 +1,4 @@
+pub mod Roman
+pub mod Numeral
+pub mod Sound
+pub mod Heading

@@ -1,0 +1,22 @@
+use mathlib.Core.Path.{_≡_, refl}
+use Prim.Native.Nat.{_<_}
+use native.Mathlib.Omega.{arith}
+use lib.ListN.{length}
+use Rattle.std.proofs.shelf.Lists.{length-map}
+use Rattle.record.specs.Meaning.{label-of}
+use Rattle.record.proofs.Filling.{filled}
+use Rattle.record.proofs.Whole.{lists-same}
+use Rattle.record.proofs.table.Table.fill.Needs as need
+
+pub returns-then-i-len : need.returns-then-i-len
+returns-then-i-len c =
+    let v = c .args .self .now .labels in
+    (λ h. omega (arith, h .0, length-map (v .items) label-of, v .ok .0), refl)
+
+pub returns : need.returns
+returns c =
+    let v = c .args .self .now .labels in
+    let within : c .args .i < length (v .items) = omega (arith, v .ok .0) in (
+      (omega (arith, length-map (v .items) label-of), omega (arith, c .if-page-eq0 .left), c .if-page-gt999 .left),
+      lists-same _ _ (filled (v .items) (c .args .i) (c .entry-entry .result .now) _ within (c .entry-entry .ensures) refl) refl,
+    )

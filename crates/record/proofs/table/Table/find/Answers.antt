@@ -1,0 +1,37 @@
+use mathlib.Core.Path.{_≡_, sym, ap, _∙_}
+use mathlib.Core.Bool.{true}
+use Prim.Native.Nat.{_<_, _≤_}
+use native.Mathlib.Omega.{arith}
+use borrow.Author.Needs.{needs}
+use lib.ListN.{length}
+use Rattle.record.specs.Naming.{name-bytes}
+use Rattle.record.proofs.Places.{name-test, later-none, found-here, not-here, nowhere}
+use Rattle.record.proofs.table.Table.find.Needs as need
+
+pub loop-i-holds : need.loop-i-holds
+loop-i-holds c = later-none _
+
+pub returns-then-eq : need.returns-then-eq
+returns-then-eq c =
+    let es = c .args .self .now .labels .items in
+    let i = c .loop-i .i in
+    let x = c .index .result .now in
+    let within : i < length es = search needs in
+    let test = name-test (x .name) (c .args .name .now) _ (c .eq .ensures) ∙ c .if-eq .taken in
+    sym (found-here es _ i x within (c .index .ensures) test) ∙ c .loop-i .inv
+
+pub loop-i-again : need.loop-i-again
+loop-i-again c =
+    let es = c .args .self .now .labels .items in
+    let i = c .loop-i .i in
+    let x = c .index .result .now in
+    let within : i < length es = search needs in
+    let test = name-test (x .name) (c .args .name .now) _ (c .eq .ensures) ∙ c .if-eq .left in
+    not-here es _ i x within (c .index .ensures) test ∙ c .loop-i .inv
+
+pub returns : need.returns
+returns c =
+    let es = c .args .self .now .labels .items in
+    let i = c .loop-i .i in
+    let past : length es ≤ i = search needs in
+    sym (nowhere es _ i past) ∙ c .loop-i .inv

@@ -1,0 +1,81 @@
+// How a table is made, emptied, read and added to.
+ghost use mathlib.Core.Path.{_≡_};
+ghost use mathlib.Core.List.{map};
+ghost use Prim.Native.Nat.{_<_, _≤_};
+ghost use lib.ListN.{length};
+ghost use Rattle.std.specs.Vec.{made};
+ghost use Rattle.record.specs.Lists.{lists-of, no-entries, with-label, with-heading, Changes};
+ghost use Rattle.record.specs.Meaning.{label-of, position-of};
+use super::Table;
+use crate::entry::ContentsEntry;
+use crate::entry::LabelEntry;
+use std::alloc::AllocError;
+use std::alloc::Global;
+
+impl Table {
+    // An empty table, with room for all that a record may hold. No other call on it allocates.
+    pub fn new(heap: Global) -> Result<Table, AllocError>
+        ensures { λ r. ⌜ made r (λ t. lists-of t ≡ no-entries) ⌝ }
+    {
+        let labels = Vec::with_capacity(heap, 128)?;
+        let contents = Vec::with_capacity(heap, 128)?;
+        Ok(Table { labels, contents })
+    }
+
+    pub fn clear(&mut self)
+        ensures { λ _. ⌜ lists-of (now (self .exit)) ≡ no-entries ⌝ }
+    {
+        self.labels.clear();
+        self.contents.clear();
+    }
+
+    pub fn labels(&self) -> &[LabelEntry]
+        ensures value { λ r. ⌜ map label-of (now r) ≡ lists-of (now (self .entry)) .labels ⌝ }
+        ensures bound { λ r. ⌜ length (now r) ≤ 128 ⌝ }
+    {
+        self.labels.as_slice()
+    }
+
+    pub fn contents(&self) -> &[ContentsEntry]
+        ensures value { λ r. ⌜ map position-of (now r) ≡ lists-of (now (self .entry)) .contents ⌝ }
+        ensures bound { λ r. ⌜ length (now r) ≤ 128 ⌝ }
+    {
+        self.contents.as_slice()
+    }
+
+    pub fn label_count(&self) -> usize
+        ensures value { λ r. ⌜ r ≡ length (lists-of (now (self .entry)) .labels) ⌝ }
+        ensures bound { λ r. ⌜ r ≤ 128 ⌝ }
+    {
+        self.labels.len()
+    }
+
+    pub fn contents_count(&self) -> usize
+        ensures value { λ r. ⌜ r ≡ length (lists-of (now (self .entry)) .contents) ⌝ }
+        ensures bound { λ r. ⌜ r ≤ 128 ⌝ }
+    {
+        self.contents.len()
+    }
+
+    // Adds a label entry at the end, and answers whether there was room.
+    pub fn add_label(&mut self, entry: LabelEntry) -> bool
+        ensures { λ r. ⌜ Changes r (length (lists-of (now (self .entry)) .labels) < 128) (with-label (lists-of (now (self .entry))) (label-of entry)) (lists-of (now (self .entry))) (lists-of (now (self .exit))) ⌝ }
+    {
+        if self.labels.len() >= 128 {
+            return false;
+        }
+        self.labels.push_reserved(entry);
+        true
+    }
+
+    // Adds a contents entry at the end, and answers whether there was room.
+    pub fn add_contents(&mut self, entry: ContentsEntry) -> bool
+        ensures { λ r. ⌜ Changes r (length (lists-of (now (self .entry)) .contents) < 128) (with-heading (lists-of (now (self .entry))) (position-of entry)) (lists-of (now (self .entry))) (lists-of (now (self .exit))) ⌝ }
+    {
+        if self.contents.len() >= 128 {
+            return false;
+        }
+        self.contents.push_reserved(entry);
+        true
+    }
+}
