@@ -4,6 +4,8 @@ ghost use Rattle.std.specs.Of.String.{string-bytes};
 ghost use Rattle.std.specs.Vec.{made};
 ghost use Rattle.replay.specs.Answers.{fault-line, counts-line, check-line};
 use crate::hex::decode;
+use crate::records::load_line;
+use crate::records::numeral_line;
 use crate::steps::layout_line;
 use faults::Fault;
 use manuscript::Counts;
@@ -53,6 +55,14 @@ fn answer_check(heap: Global, digits: &str) -> Result<Option<String>, AllocError
     Ok(Some(check_line(heap, &text)?))
 }
 
+// The answer to a request for the loading of record lines in hexadecimal.
+fn answer_load(heap: Global, digits: &str) -> Result<Option<String>, AllocError> {
+    let Some(bytes) = decode(heap, digits.as_bytes())? else {
+        return Ok(None);
+    };
+    Ok(Some(load_line(heap, &bytes)?))
+}
+
 // The answer to one request line: a command, an argument, and what follows them.
 pub fn answer(heap: Global, request: &str) -> Result<String, AllocError> {
     let words: Vec<&str> = request.split(' ').collect(heap)?;
@@ -61,6 +71,8 @@ pub fn answer(heap: Global, request: &str) -> Result<String, AllocError> {
     }
     let reply = match words[0] {
         "check" => answer_check(heap, words[1])?,
+        "load" => answer_load(heap, words[1])?,
+        "numeral" if words.len() == 3 => numeral_line(heap, words[1], words[2])?,
         "layout" => layout_line(heap, words[1], &words[2..])?,
         _ => None,
     };

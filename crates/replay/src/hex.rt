@@ -28,3 +28,24 @@ pub fn decode(heap: Global, digits: &[u8]) -> Result<Option<Vec<u8>>, AllocError
     }
     Ok(Some(bytes))
 }
+
+fn digit_of(value: u8) -> char {
+    match value {
+        0..=9 => char::from(b'0' + value),
+        10..=15 => char::from(b'A' + (value - 10)),
+        _ => '?',
+    }
+}
+
+// Bytes as pairs of digits, `-` for none.
+pub fn encode(heap: Global, bytes: &[u8]) -> Result<String, AllocError> {
+    if bytes.is_empty() {
+        return String::from_str(heap, "-");
+    }
+    let mut text = String::new(heap);
+    for b in bytes {
+        text.push(digit_of(*b / 16))?;
+        text.push(digit_of(*b % 16))?;
+    }
+    Ok(text)
+}

@@ -6,6 +6,7 @@ use std::io::BufReader;
 
 mod answers;
 mod hex;
+mod records;
 mod steps;
 
 fn run(rt: &LibcRuntime) -> Result<(), AnyError> {
