@@ -1,6 +1,6 @@
 -- What the calls of a layout do, from a value x to a value y: all of y is its settings and its place.
 --   spot-told         what a value tells of a mark
---   paper-told        the paper that a value has
+--   paper-told        paper of a value
 --   outcome           what comes of setting a word
 --   place-after       the place after an outcome: a refusal keeps it
 --   Left              the settings are as they were, and the place is this

@@ -26,7 +26,7 @@ pub record Meaning (Self Mark : Type 0) : Type 1 where
   pub settings : Self → Settings
   pub place : Self → Place
   pub letter : ℕ
-  -- what the settings fix of the paper, and where a mark stands on it
+  -- what the settings fix of a page, and where a mark stands on it
   pub paper : Settings → Paper
   pub spot : Settings → Mark → Spot
   -- where the next word stands at the earliest
@@ -54,7 +54,7 @@ Onward Sound front q r = (front q ≼ front r) × Sound r
 pub record Lawful {Self Mark : Type 0} (m : Meaning Self Mark) : Type 1 where
   -- height and width are in range
   pub sized : (s : m .Settings) → Sized (m .paper s)
-  -- any mark and any place has a page of 1 to 999, and line and column where the paper has lines
+  -- any mark and any place has a page of 1 to 999, and line and column where a page has lines
   pub marked : (s : m .Settings) (k : Mark) → Kind (m .paper s) (m .spot s k)
   pub fronted : (s : m .Settings) (q : m .Place) → Kind (m .paper s) (m .front s q)
   -- no bytes, or more than 72, are refused as too wide

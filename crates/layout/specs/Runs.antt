@@ -83,7 +83,7 @@ Precedes (printed h w) v u = v .spot ≺ u .spot
 pub record Reads (b : Paper) (ws : List Put-word) : Type 0 where
   -- the pages never go back
   pub onward : Pairs Page-onward ws
-  -- where the paper has lines, the words strictly ascend
+  -- where a page has lines, the words strictly ascend
   pub ascending : Pairs (Precedes b) ws
   -- each begins after the end of every earlier one
   pub ended : Pairs Ended-before ws

@@ -8,8 +8,8 @@
 --   nearest-page    the page number that is nearest to a number
 --   Paper           what the settings fix of a page: nothing, or its height and width
 --   Sized           a height is 1 to 90 lines, a width 20 to 120 columns
---   High, Wide      the paper has so many lines to a page, so many columns to a line
---   Kind            a spot has line and column where the paper has lines, and no other has
+--   High, Wide      so many lines to a page, so many columns to a line
+--   Kind            a spot has line and column where a page has lines, and no other has
 --   Inside          a word of n bytes lies on one line inside the page
 --   Stands          a spot has this line and this column
 use mathlib.Core.Path.{_≡_, refl}

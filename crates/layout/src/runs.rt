@@ -6,7 +6,7 @@ use crate::layout::Layout;
 use crate::layout::Printing;
 
 // The words of an accepted run stand apart and inside the page, on pages that never go back;
-// where the paper has lines they strictly ascend in reading order.
+// where a page has lines they strictly ascend in reading order.
 pub fn reading_order<L: Layout>()
     ensures order { λ _. ⌜ Reading-order meaning ⌝ }
     ensures within { λ _. ⌜ Printed-order meaning ⌝ }
