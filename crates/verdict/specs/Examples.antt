@@ -1,0 +1,54 @@
+-- Computed examples: records that are one page number, from page 0.
+--   read       the verdict on pages taken in one after the other
+--   verdict-on the same from the start
+--   turn       a step that swings between 3 and 4
+use mathlib.Core.Path.{_≡_, refl, sym, ap}
+use mathlib.Core.Bool.{true, false, cond}
+use mathlib.Core.List.{List, [], _∷_}
+use Prim.Native.Nat.{ℕ}
+use native.Mathlib.Omega.{arith}
+use lib.Dec.{eqb}
+use Rattle.std.specs.declared.option.Option.{Option}
+use Rattle.std.specs.declared.option.Option.the-variants.{Some}
+use Rattle.verdict.specs.Brent.{numbers, start, advanced, at-anchor, verdict-of}
+use Rattle.verdict.specs.Runs.{Reached, begun, passed}
+use Rattle.verdict.specs.declared.outcome.Outcome.{Outcome}
+use Rattle.verdict.specs.declared.outcome.Outcome.the-variants.{Open, Settled, Oscillates}
+use Rattle.verdict.specs.declared.outcome.Verdict.{Verdict}
+use Rattle.verdict.specs.declared.progress.Progress.{Progress}
+
+abbrev read : Progress → ℕ → ℕ → List ℕ → Verdict
+read p c a [] = verdict-of p
+read p c a (n ∷ ns) = read (advanced (eqb n c) (eqb n a) p) n (cond (at-anchor (advanced (eqb n c) (eqb n a) p)) n a) ns
+
+abbrev verdict-on : List ℕ → Verdict
+verdict-on = read start 0 0
+
+abbrev says : Outcome → ℕ → ℕ → ℕ → Verdict
+says o k q s = record { kind = o; passes = k; period = q; since = s }
+
+settles : verdict-on (3 ∷ 3 ∷ []) ≡ says Settled 2 1 1
+settles = refl
+
+swings : verdict-on (3 ∷ 4 ∷ 3 ∷ []) ≡ says Oscillates 3 2 1
+swings = refl
+
+not-yet : verdict-on (3 ∷ 4 ∷ []) ≡ says Open 2 0 0
+not-yet = refl
+
+-- a period of three is met at the anchor of pass 3
+three : verdict-on (5 ∷ 6 ∷ 7 ∷ 5 ∷ 6 ∷ 7 ∷ []) ≡ says Oscillates 6 3 3
+three = refl
+
+no : false ≡ true → ⊥
+no e = let z : _≡_ {A = ℕ} 0 1 = ap (λ b. cond b 1 0) e in omega arith
+
+abbrev turn : ℕ → Option ℕ
+turn n = cond (eqb n 3) (Some 4) (Some 3)
+
+-- the run 0, 3, 4, 3 leads there with the comparisons as they are
+turns : Reached turn 0 (numbers 3 1 2 Oscillates) 3 3
+turns =
+    let first : Reached turn 0 (numbers 1 1 2 Open) 3 3 = passed start 0 0 3 false false begun refl refl (λ e. absurd (no e), λ e. ap (eqb 0) (sym e)) (λ e. absurd (no e), λ e. ap (eqb 0) (sym e)) in
+    let second : Reached turn 0 (numbers 2 1 2 Open) 4 3 = passed (numbers 1 1 2 Open) 3 3 4 false false first refl refl (λ e. absurd (no e), λ e. ap (eqb 3) (sym e)) (λ e. absurd (no e), λ e. ap (eqb 3) (sym e)) in
+    passed (numbers 2 1 2 Open) 4 3 3 false true second refl refl (λ e. absurd (no e), λ e. ap (eqb 4) (sym e)) (λ e. refl, λ e. refl)
