@@ -59,9 +59,9 @@ module _ {X : Type 0} (f : X → Option X) (x₀ : X) where
         ⊎-elim
         (λ early. before j early)
         (λ late.
-            let k = j - (n - b) in
-            let back : x j ≡ x k = ap x (let e : j ≡ k + (n - b) = omega arith in e) ∙ round k (omega arith) in
-            subst P (sym back) (everywhere P before fuel k (omega arith)))
+        let k = j - (n - b) in
+        let back : x j ≡ x k = ap x (let e : j ≡ k + (n - b) = omega arith in e) ∙ round k (omega arith) in
+        subst P (sym back) (everywhere P before fuel k (omega arith)))
         (cases-lt j n)
 
     -- a step that rests would have rested before n

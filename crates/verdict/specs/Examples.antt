@@ -2,7 +2,7 @@
 --   read       the verdict on pages taken in one after the other
 --   verdict-on the same from the start
 --   turn       a step that swings between 3 and 4
-use mathlib.Core.Path.{_≡_, refl, sym, ap}
+use mathlib.Core.Path.{_≡_, refl, ap}
 use mathlib.Core.Bool.{true, false, cond}
 use mathlib.Core.List.{List, [], _∷_}
 use Prim.Native.Nat.{ℕ}
@@ -49,6 +49,6 @@ turn n = cond (eqb n 3) (Some 4) (Some 3)
 -- the run 0, 3, 4, 3 leads there with the comparisons as they are
 turns : Reached turn 0 (numbers 3 1 2 Oscillates) 3 3
 turns =
-    let first : Reached turn 0 (numbers 1 1 2 Open) 3 3 = passed start 0 0 3 false false begun refl refl (λ e. absurd (no e), λ e. ap (eqb 0) (sym e)) (λ e. absurd (no e), λ e. ap (eqb 0) (sym e)) in
-    let second : Reached turn 0 (numbers 2 1 2 Open) 4 3 = passed (numbers 1 1 2 Open) 3 3 4 false false first refl refl (λ e. absurd (no e), λ e. ap (eqb 3) (sym e)) (λ e. absurd (no e), λ e. ap (eqb 3) (sym e)) in
-    passed (numbers 2 1 2 Open) 4 3 3 false true second refl refl (λ e. absurd (no e), λ e. ap (eqb 4) (sym e)) (λ e. refl, λ e. refl)
+    let first : Reached turn 0 (numbers 1 1 2 Open) 3 3 = passed start 0 0 3 false false begun refl refl (λ e. absurd (no e), λ e. ap (eqb 0) e) (λ e. absurd (no e), λ e. ap (eqb 0) e) in
+    let second : Reached turn 0 (numbers 2 1 2 Open) 4 3 = passed (numbers 1 1 2 Open) 3 3 4 false false first refl refl (λ e. absurd (no e), λ e. ap (eqb 3) e) (λ e. absurd (no e), λ e. ap (eqb 3) e) in
+    passed (numbers 2 1 2 Open) 4 3 3 false true second refl refl (λ e. absurd (no e), λ e. ap (eqb 4) e) (λ e. refl, λ e. refl)

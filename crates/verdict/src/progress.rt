@@ -20,7 +20,12 @@ impl Progress {
     pub fn new() -> Progress
         ensures value { λ r. ⌜ r ≡ start ⌝ }
     {
-        Progress { passes: 0, anchor: 0, power: 1, outcome: Outcome::Open }
+        Progress {
+            passes: 0,
+            anchor: 0,
+            power: 1,
+            outcome: Outcome::Open,
+        }
     }
 
     // Whether another pass is taken in: nothing but open was said, and the count has room.
@@ -42,15 +47,35 @@ impl Progress {
         }
         let passes = self.passes + 1;
         if same_as_before {
-            return Progress { passes, anchor: self.anchor, power: self.power, outcome: Outcome::Settled };
+            return Progress {
+                passes,
+                anchor: self.anchor,
+                power: self.power,
+                outcome: Outcome::Settled,
+            };
         }
         if same_as_anchor {
-            return Progress { passes, anchor: self.anchor, power: self.power, outcome: Outcome::Oscillates };
+            return Progress {
+                passes,
+                anchor: self.anchor,
+                power: self.power,
+                outcome: Outcome::Oscillates,
+            };
         }
         if u16::from(passes.saturating_sub(self.anchor)) == self.power {
-            return Progress { passes, anchor: passes, power: self.power * 2, outcome: Outcome::Open };
+            return Progress {
+                passes,
+                anchor: passes,
+                power: self.power * 2,
+                outcome: Outcome::Open,
+            };
         }
-        Progress { passes, anchor: self.anchor, power: self.power, outcome: Outcome::Open }
+        Progress {
+            passes,
+            anchor: self.anchor,
+            power: self.power,
+            outcome: Outcome::Open,
+        }
     }
 
     // Whether the anchor's record is the current one. After a pass: whether the anchor has just moved to it.
@@ -65,8 +90,18 @@ impl Progress {
     {
         let passes = self.passes;
         match self.outcome {
-            Outcome::Open => Verdict { kind: Outcome::Open, passes, period: 0, since: 0 },
-            Outcome::Settled => Verdict { kind: Outcome::Settled, passes, period: 1, since: passes.saturating_sub(1) },
+            Outcome::Open => Verdict {
+                kind: Outcome::Open,
+                passes,
+                period: 0,
+                since: 0,
+            },
+            Outcome::Settled => Verdict {
+                kind: Outcome::Settled,
+                passes,
+                period: 1,
+                since: passes.saturating_sub(1),
+            },
             Outcome::Oscillates => Verdict {
                 kind: Outcome::Oscillates,
                 passes,

@@ -1,7 +1,5 @@
-use Rattle.verdict.proofs.Rounds.{repeats}
-use Rattle.verdict.proofs.Verdicts.{}
+use Rattle.verdict.proofs.Verdicts.{always-right}
 use Rattle.verdict.proofs.right.always_right.Needs as need
 
--- src/right.rt:9:1
 pub returns : need.returns
-returns g c = ?
+returns g c = always-right _
