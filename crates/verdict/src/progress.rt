@@ -49,17 +49,15 @@ impl Progress {
         if same_as_before {
             return Progress {
                 passes,
-                anchor: self.anchor,
-                power: self.power,
                 outcome: Outcome::Settled,
+                ..self
             };
         }
         if same_as_anchor {
             return Progress {
                 passes,
-                anchor: self.anchor,
-                power: self.power,
                 outcome: Outcome::Oscillates,
+                ..self
             };
         }
         if u16::from(passes.saturating_sub(self.anchor)) == self.power {
@@ -67,15 +65,10 @@ impl Progress {
                 passes,
                 anchor: passes,
                 power: self.power * 2,
-                outcome: Outcome::Open,
+                ..self
             };
         }
-        Progress {
-            passes,
-            anchor: self.anchor,
-            power: self.power,
-            outcome: Outcome::Open,
-        }
+        Progress { passes, ..self }
     }
 
     // Whether the anchor's record is the current one. After a pass: whether the anchor has just moved to it.
