@@ -7,7 +7,7 @@ use native.Mathlib.Omega.{arith}
 use Rattle.std.proofs.shelf.Tests.{cases-lt}
 use Rattle.std.specs.declared.option.Option.{Option}
 use Rattle.std.specs.declared.option.Option.the-variants.{Some, None}
-use Rattle.verdict.specs.Runs.{next, run, Alike, Rests, Period}
+use Rattle.verdict.specs.Runs.{next, run, Made, Rests, Period}
 
 module _ {X : Type 0} (f : X → Option X) (x₀ : X) where
   abbrev x : ℕ → Option X
@@ -21,6 +21,7 @@ module _ {X : Type 0} (f : X → Option X) (x₀ : X) where
   abbrev pub Fresh : ℕ → ℕ → Type 0
   Fresh b n = (j : ℕ) → b < j → j ≤ n → x j ≡ x b → ⊥
 
+  -- something was reached
   abbrev There : Option X → Type 0
   There o = (y : X) × (o ≡ Some y)
 
@@ -69,10 +70,11 @@ module _ {X : Type 0} (f : X → Option X) (x₀ : X) where
     never-rests moving k r = everywhere (λ o. (y : X) × (next f x₀ o ≡ Some y) × (o ≡ Some y) → ⊥) moving k k (omega arith) r
 
     -- no step is ever refused
-    pub never-ends : There (x n) → (k : ℕ) → There (x k)
+    pub never-ends : Made f x₀ n → (k : ℕ) → Made f x₀ k
     never-ends t k = everywhere There (λ j l. reached-before n j t (omega arith)) k k (omega arith)
 
-    pub repeats : There (x n) → Period f x₀ b (n - b)
+    -- and n − b is a period
+    pub repeats : Made f x₀ n → Period f x₀ b (n - b)
     repeats t = (omega arith, λ i l. let y = never-ends t i in (y .0, round i l ∙ y .1, y .1))
 
   -- no period is shorter than the way to the first meeting

@@ -1,16 +1,16 @@
 -- The verdict is right, by what the numbers stand for along a run. Assumes nothing.
 use mathlib.Core.Path.{_≡_, refl, sym, ap, subst, _∙_}
-use mathlib.Core.Bool.{Bool, true, false, cond}
+use mathlib.Core.Bool.{Bool, true, false, cond, false≢true}
 use mathlib.Core.Logic.{⊎-elim}
 use Prim.Native.Nat.{ℕ, zero, suc, _+_, _-_, _*_, _≤_, _<_}
 use native.Mathlib.Omega.{arith}
 use lib.Dec.{eqb}
-use Rattle.std.proofs.shelf.Tests.{cases-lt, eq-eqb, ne-eqb}
+use Rattle.std.proofs.shelf.Tests.{cases-lt, eqb-false, eq-eqb, ne-eqb}
 use Rattle.std.specs.Orderings.{Decides}
 use Rattle.std.specs.declared.option.Option.{Option}
 use Rattle.std.specs.declared.option.Option.the-variants.{Some, None}
-use Rattle.verdict.specs.Brent.{numbers, start, takes, ruled, advanced, at-anchor, verdict-of}
-use Rattle.verdict.specs.Runs.{next, run, Alike, Rests, Period, Reached, begun, passed, Right, Always-right}
+use Rattle.verdict.specs.Brent.{numbers, start, takes, ruled, advanced, at-anchor, kind-number, verdict-of}
+use Rattle.verdict.specs.Runs.{next, run, Rests, Period, Reached, begun, passed, Right, Always-right}
 use Rattle.verdict.specs.declared.outcome.Outcome.{Outcome}
 use Rattle.verdict.specs.declared.outcome.Outcome.the-variants.{Open, Settled, Oscillates}
 use Rattle.verdict.specs.declared.progress.Progress.{Progress}
@@ -30,11 +30,13 @@ module _ {X : Type 0} (f : X → Option X) (x₀ : X) where
   abbrev Stands : Progress → X → X → Type 0
   Stands p c a = (p .anchor ≤ p .passes) × (x (p .passes) ≡ Some c) × (x (p .anchor) ≡ Some a) × Known (p .outcome) (p .passes) (p .anchor)
 
+  -- what two sides hold is the same
   same-some : {c d : X} → _≡_ {A = Option X} (Some c) (Some d) → c ≡ d
   same-some e = cc
 
-  no-both : {t : Bool} → t ≡ true → t ≡ false → ⊥
-  no-both p q = let z : _≡_ {A = ℕ} 0 1 = cc in omega arith
+  -- different outcomes have different numbers
+  apart : (o u : Outcome) → eqb (kind-number o) (kind-number u) ≡ false → o ≡ u → ⊥
+  apart o u d e = eqb-false (kind-number o) (kind-number u) d (ap kind-number e)
 
   -- an open progress with n passes and the anchor b, and a step from c that makes d
   module _ (n b : ℕ) (c a d : X) (low : b ≤ n) (current : x n ≡ Some c) (anchor : x b ≡ Some a) (made : x (suc n) ≡ Some d) (moving : Moving f x₀ n) (fresh : Fresh f x₀ b n) where
@@ -80,15 +82,15 @@ module _ {X : Type 0} (f : X → Option X) (x₀ : X) where
       omega arith,
       made,
       stays,
-      (n, refl, low, made ∙ ap Some (t .0 refl) ∙ sym anchor, moving-on (λ e. no-both (s .1 e) refl), fresh),
+      (n, refl, low, made ∙ ap Some (t .0 refl) ∙ sym anchor, moving-on (λ e. false≢true (s .1 e)), fresh),
     )
-    stands-on w false false s t = open-on w (eqb (suc n - b) w) (λ e. no-both (s .1 e) refl) (λ e. no-both (t .1 e) refl)
+    stands-on w false false s t = open-on w (eqb (suc n - b) w) (λ e. false≢true (s .1 e)) (λ e. false≢true (t .1 e))
 
   -- only an open progress takes in a pass
   takes-open : (o : Outcome) (n b w : ℕ) → takes (numbers n b w o) ≡ true → o ≡ Open
   takes-open Open n b w e = refl
-  takes-open Settled n b w e = absurd (no-both refl (sym e))
-  takes-open Oscillates n b w e = absurd (no-both refl (sym e))
+  takes-open Settled n b w e = absurd (false≢true e)
+  takes-open Oscillates n b w e = absurd (false≢true e)
 
   -- the numbers stand for what they should all along a run
   stands : {p : Progress} {c a : X} → Reached f x₀ p c a → Stands p c a
@@ -107,34 +109,35 @@ module _ {X : Type 0} (f : X → Option X) (x₀ : X) where
   -- what they stand for makes the verdict right
   right-by : (o : Outcome) (n b w : ℕ) (c : X) → x n ≡ Some c → Known o n b → Right f x₀ (verdict-of (numbers n b w o))
   right-by Open n b w c t (moving, fresh) = record {
-    settled = λ e. let z : _≡_ {A = ℕ} 0 1 = cc in absurd (omega arith);
+    settled = λ e. absurd (apart Open Settled refl e);
     rests = λ k l r. absurd (moving k l r);
-    never = λ e. let z : _≡_ {A = ℕ} 0 1 = cc in absurd (omega arith);
-    endless = λ e. let z : _≡_ {A = ℕ} 0 1 = cc in absurd (omega arith);
+    never = λ e. absurd (apart Open Oscillates refl e);
+    endless = λ e. absurd (e refl);
     period = λ e. absurd (e refl);
     least = λ e. absurd (e refl);
   }
   right-by Settled n b w c t (m, e, same) =
       let last : m ≡ n - 1 = omega arith in
-      let round = repeats f x₀ n m (omega arith) same (c, t) in
+      let later : m < n = omega arith in
+      let round = repeats f x₀ n m later same (c, t) in
       let one : n - m ≡ 1 = omega arith in
       let period = subst (λ k. Period f x₀ k 1) last (subst (λ q. Period f x₀ m q) one round) in
       let rest : Rests f x₀ m = (c, subst (λ k. x k ≡ Some c) e t, sym same ∙ t) in
       record {
         settled = λ e. (omega arith, subst (Rests f x₀) last rest);
         rests = λ k l r. refl;
-        never = λ e. let z : _≡_ {A = ℕ} 0 1 = cc in absurd (omega arith);
-        endless = λ e. let z : _≡_ {A = ℕ} 0 1 = cc in absurd (omega arith);
+        never = λ e. absurd (apart Settled Oscillates refl e);
+        endless = λ _. never-ends f x₀ n m later same (c, t);
         period = λ _. period;
         least = λ _ q p. p .0;
       }
   right-by Oscillates n b w c t (m, e, low, same, moving, fresh) =
       let later : b < n = omega arith in
       record {
-        settled = λ e. let z : _≡_ {A = ℕ} 0 1 = cc in absurd (omega arith);
+        settled = λ e. absurd (apart Oscillates Settled refl e);
         rests = λ k l r. absurd (moving k l r);
         never = λ _. never-rests f x₀ n b later same moving;
-        endless = λ _ k. let y = never-ends f x₀ n b later same (c, t) k in (y .0, y .1, y .1);
+        endless = λ _. never-ends f x₀ n b later same (c, t);
         period = λ _. repeats f x₀ n b later same (c, t);
         least = λ _ q p. let l = no-shorter f x₀ m b fresh q p in omega arith;
       }

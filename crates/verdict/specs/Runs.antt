@@ -1,7 +1,8 @@
 -- Runs of a step that may refuse, and what the verdict promises of them.
 --   next            the step from what was reached, if anything was
 --   run             x(k): what k steps lead to, if none of them was refused; it goes on past every verdict
---   Alike           x(i) and x(j) were reached, and are the same
+--   Made            x(k) is there: none of k steps was refused
+--   Alike           x(i) and x(j) are there, and are the same
 --   Rests           the step from x(k) was accepted and gave back x(k)
 --   Period          q is a period from pass b on
 --   Reached         the numbers, the current record and the anchor's record that accepted steps lead to
@@ -28,6 +29,9 @@ module _ {X : Type 0} (f : X → Option X) (x₀ : X) where
   run zero = Some x₀
   run (suc k) = next (run k)
 
+  abbrev pub Made : ℕ → Type 0
+  Made k = (x : X) × (run k ≡ Some x)
+
   abbrev pub Alike : ℕ → ℕ → Type 0
   Alike i j = (x : X) × (run i ≡ Some x) × (run j ≡ Some x)
 
@@ -43,13 +47,13 @@ module _ {X : Type 0} (f : X → Option X) (x₀ : X) where
     passed : (p : Progress) (c a n : X) (again back : Bool) → Reached p c a → takes p ≡ true → f c ≡ Some n → Decides again (n ≡ c) → Decides back (n ≡ a) → Reached (advanced again back p) n (cond (at-anchor (advanced again back p)) n a)
 
   pub record Right (v : Verdict) : Type 0 where
-    -- settled is said exactly when a step gave back what it began with: it is the last one
+    -- settled is said exactly when a step gave back what it began with: it is the last step made
     pub settled : v .kind ≡ Settled → (v .passes ≡ suc (v .since)) × Rests (v .since)
     pub rests : (k : ℕ) → k < v .passes → Rests k → v .kind ≡ Settled
-    -- where oscillates is said no step ever gives back what it begins with, and none is ever refused
+    -- where oscillates is said no step ever gives back what it begins with, however far the run goes on
     pub never : v .kind ≡ Oscillates → (k : ℕ) → Rests k → ⊥
-    pub endless : v .kind ≡ Oscillates → (k : ℕ) → Alike k k
-    -- the period named is one, and the smallest
+    -- where either is said no step is ever refused, and the period named is one from `since` on, the smallest
+    pub endless : (v .kind ≡ Open → ⊥) → (k : ℕ) → Made k
     pub period : (v .kind ≡ Open → ⊥) → Period (v .since) (v .period)
     pub least : (v .kind ≡ Open → ⊥) → (q : ℕ) → Period (v .since) q → v .period ≤ q
 

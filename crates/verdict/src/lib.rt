@@ -8,7 +8,7 @@ pub use outcome::VerdictPartialEq;
 pub use progress::Progress;
 pub use progress::ProgressDebug;
 pub use progress::ProgressPartialEq;
-pub use right::told;
+pub use right::right_verdict;
 
 mod outcome;
 mod progress;

@@ -1,5 +1,5 @@
-// Brent's rule on plain numbers. Every call takes any numbers: differences stop at 0, and a progress that is full or has its
-// verdict takes in no more passes.
+// Brent's rule on plain numbers. Every call takes any numbers: differences stop at 0, and a progress that has its verdict, or
+// has counted 255 passes, stays as it is.
 ghost use mathlib.Core.Path.{_≡_};
 ghost use Rattle.verdict.specs.Brent.{start, takes, advanced, at-anchor, verdict-of};
 use crate::outcome::Outcome;
@@ -60,6 +60,7 @@ impl Progress {
                 ..self
             };
         }
+        // a power that equals a difference of passes is below 256, so it can be doubled
         if u16::from(passes.saturating_sub(self.anchor)) == self.power {
             return Progress {
                 passes,

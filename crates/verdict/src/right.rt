@@ -10,9 +10,9 @@ fn always_right<X>()
     ensures { λ _. ⌜ ((p : Progress) → Always-right X p (verdict-of p)) ⌝ }
 {}
 
-// The verdict, and that it is true of every run of records of kind X that leads to this progress: also of all that the run
-// goes on to after it.
-pub fn told<X>(progress: Progress) -> Verdict
+// The verdict, and that it is true of every run of records of kind X that leads to this progress, however far the run would
+// go on.
+pub fn right_verdict<X>(progress: Progress) -> Verdict
     ensures value { λ r. ⌜ r ≡ verdict-of progress ⌝ }
     ensures right { λ r. ⌜ Always-right X progress r ⌝ }
 {
