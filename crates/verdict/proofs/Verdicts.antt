@@ -30,7 +30,7 @@ module _ {X : Type 0} (f : X → Option X) (x₀ : X) where
   abbrev Stands : Progress → X → X → Type 0
   Stands p c a = (p .anchor ≤ p .passes) × (x (p .passes) ≡ Some c) × (x (p .anchor) ≡ Some a) × Known (p .outcome) (p .passes) (p .anchor)
 
-  -- what two sides hold is the same
+  -- what both sides hold is the same
   same-some : {c d : X} → _≡_ {A = Option X} (Some c) (Some d) → c ≡ d
   same-some e = cc
 
@@ -40,6 +40,7 @@ module _ {X : Type 0} (f : X → Option X) (x₀ : X) where
 
   -- an open progress with n passes and the anchor b, and a step from c that makes d
   module _ (n b : ℕ) (c a d : X) (low : b ≤ n) (current : x n ≡ Some c) (anchor : x b ≡ Some a) (made : x (suc n) ≡ Some d) (moving : Moving f x₀ n) (fresh : Fresh f x₀ b n) where
+    -- a step that makes something else than c does not rest
     moving-on : (d ≡ c → ⊥) → Moving f x₀ (suc n)
     moving-on other j l (y, after, before) =
         ⊎-elim
@@ -51,6 +52,7 @@ module _ {X : Type 0} (f : X → Option X) (x₀ : X) where
         other (same-some (sym made ∙ q ∙ sym p ∙ current)))
         (cases-lt j n)
 
+    -- what is not the anchor's record is not met again
     fresh-on : (d ≡ a → ⊥) → Fresh f x₀ b (suc n)
     fresh-on other j l u e =
         ⊎-elim
