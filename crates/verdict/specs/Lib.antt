@@ -1,0 +1,3 @@
+pub mod Brent
+pub mod Runs
+pub mod Examples
