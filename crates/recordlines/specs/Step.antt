@@ -3,11 +3,12 @@
 --   Step             one entry more, the end, or a cause to refuse
 --   step             what a frame does: told by its first byte, malformed before invalid
 --   decoded          the frame of a line's digits; no frame has more than 24 bytes
+--   Decodes          what decoding a line into a buffer answers and leaves
 --   line-step        what a line does
 use mathlib.Core.Path.{_≡_, refl}
 use mathlib.Core.Bool.{Bool, true, false, cond, _&&_, not}
 use mathlib.Core.List.{List, [], _∷_}
-use Prim.Native.Nat.{ℕ, _+_, _*_}
+use Prim.Native.Nat.{ℕ, _+_, _*_, _≤_}
 use lib.Dec.{eqb, leb, ltb}
 use lib.ListN.{length, take, drop}
 use Rattle.std.specs.Options.{isSome}
@@ -87,6 +88,10 @@ step ls (k ∷ rest) =
 
 abbrev pub decoded : List ℕ → Option (List ℕ)
 decoded digits = cond (leb (length digits) 48) (bytes-of digits) None
+
+abbrev pub Decodes : List ℕ → Option ℕ → List ℕ → Type 0
+Decodes digits None after = decoded digits ≡ None
+Decodes digits (Some n) after = (decoded digits ≡ Some (take n after)) × (n ≤ 24)
 
 abbrev pub frame-step : Lists → Option (List ℕ) → Step
 frame-step ls None = wrong FrameMalformed

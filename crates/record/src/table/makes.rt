@@ -1,10 +1,10 @@
 // How a table is made, emptied, read and added to.
 ghost use mathlib.Core.Path.{_≡_};
 ghost use mathlib.Core.List.{map};
-ghost use Prim.Native.Nat.{_<_, _≤_};
+ghost use Prim.Native.Nat.{_≤_};
 ghost use lib.ListN.{length};
 ghost use Rattle.std.specs.Vec.{made};
-ghost use Rattle.record.specs.Lists.{lists-of, no-entries, with-label, with-heading, Changes};
+ghost use Rattle.record.specs.Lists.{lists-of, no-entries, Adds-label, Adds-heading};
 ghost use Rattle.record.specs.Meaning.{label-of, position-of};
 use super::Table;
 use crate::entry::ContentsEntry;
@@ -59,7 +59,7 @@ impl Table {
 
     // Adds a label entry at the end, and answers whether there was room.
     pub fn add_label(&mut self, entry: LabelEntry) -> bool
-        ensures { λ r. ⌜ Changes r (length (lists-of (now (self .entry)) .labels) < 128) (with-label (lists-of (now (self .entry))) (label-of entry)) (lists-of (now (self .entry))) (lists-of (now (self .exit))) ⌝ }
+        ensures { λ r. ⌜ Adds-label r (lists-of (now (self .entry))) (label-of entry) (lists-of (now (self .exit))) ⌝ }
     {
         if self.labels.len() >= 128 {
             return false;
@@ -70,7 +70,7 @@ impl Table {
 
     // Adds a contents entry at the end, and answers whether there was room.
     pub fn add_contents(&mut self, entry: ContentsEntry) -> bool
-        ensures { λ r. ⌜ Changes r (length (lists-of (now (self .entry)) .contents) < 128) (with-heading (lists-of (now (self .entry))) (position-of entry)) (lists-of (now (self .entry))) (lists-of (now (self .exit))) ⌝ }
+        ensures { λ r. ⌜ Adds-heading r (lists-of (now (self .entry))) (position-of entry) (lists-of (now (self .exit))) ⌝ }
     {
         if self.contents.len() >= 128 {
             return false;
