@@ -19,9 +19,10 @@ use Rattle.faults.specs.declared.cause.Cause.the-variants.{FrameMalformed, Fram
 use Rattle.names.specs.Name.{naming}
 use Rattle.names.specs.declared.Naming.{Naming}
 use Rattle.names.specs.declared.Naming.the-variants.{Right, WrongLength, WrongCharacter}
+use Rattle.numerals.specs.Sound.{number-ok}
 use Rattle.record.specs.Positions.{Position, Label, label-ok, heading-ok}
 use Rattle.record.specs.Labels.{place-of}
-use Rattle.record.specs.Lists.{Lists, with-label, with-heading}
+use Rattle.record.specs.Lists.{Lists, no-entries, with-label, with-heading}
 use Rattle.recordlines.specs.Hex.{bytes-of}
 
 abbrev pub position-from : List ℕ → Option Position
@@ -99,3 +100,15 @@ frame-step ls (Some f) = step ls f
 
 unfoldable pub line-step : Lists → List ℕ → Step
 line-step ls digits = frame-step ls (decoded digits)
+
+no-name : step no-entries (76 ∷ 0 ∷ 1 ∷ 1 ∷ 0 ∷ 0 ∷ 0 ∷ 2 ∷ []) ≡ wrong FrameMalformed
+unfolding name-sized
+no-name = refl
+
+no-heading : step no-entries (67 ∷ 0 ∷ 0 ∷ 0 ∷ 0 ∷ 0 ∷ 1 ∷ []) ≡ wrong FrameInvalid
+unfolding heading-fits
+no-heading = refl
+
+page-1000 : step no-entries (67 ∷ 1 ∷ 1 ∷ 0 ∷ 0 ∷ 3 ∷ 232 ∷ []) ≡ wrong FrameInvalid
+unfolding heading-fits number-ok
+page-1000 = refl
