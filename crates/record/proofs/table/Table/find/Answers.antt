@@ -1,10 +1,7 @@
-use mathlib.Core.Path.{_≡_, sym, ap, _∙_}
-use mathlib.Core.Bool.{true}
+use mathlib.Core.Path.{sym, _∙_}
 use Prim.Native.Nat.{_<_, _≤_}
-use native.Mathlib.Omega.{arith}
 use borrow.Author.Needs.{needs}
 use lib.ListN.{length}
-use Rattle.record.specs.Naming.{name-bytes}
 use Rattle.record.proofs.Places.{name-test, later-none, found-here, not-here, nowhere}
 use Rattle.record.proofs.table.Table.find.Needs as need
 
