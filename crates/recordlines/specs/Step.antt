@@ -1,6 +1,8 @@
 -- What a frame does to the entries read so far.
 --   position-from    the position that six bytes tell
 --   Step             one entry more, the end, or a cause to refuse
+--   label-fits, heading-fits    the entry is right, its name new, and there is room for it
+--   label-kept, heading-kept    one entry more where it fits, else invalid
 --   step             what a frame does: told by its first byte, malformed before invalid
 --   decoded          the frame of a line's digits; no frame has more than 24 bytes
 --   Decodes          what decoding a line into a buffer answers and leaves
@@ -57,15 +59,19 @@ label-fits ls l = label-ok l && (not (isSome (place-of (l .name) (ls .labels))) 
 unfoldable pub heading-fits : Lists → Position → Bool
 heading-fits ls p = heading-ok p && ltb (length (ls .contents)) 128
 
+abbrev pub label-kept : Lists → Label → Step
+label-kept ls l = cond (label-fits ls l) (keeps (with-label ls l)) (wrong FrameInvalid)
+
+abbrev pub heading-kept : Lists → Position → Step
+heading-kept ls p = cond (heading-fits ls p) (keeps (with-heading ls p)) (wrong FrameInvalid)
+
 abbrev pub label-step : Lists → List ℕ → Option Position → Step
 label-step ls name None = wrong FrameMalformed
-label-step ls name (Some p) =
-    let l : Label = record { name = name; position = p } in
-    cond (name-sized name && no-contents ls) (cond (label-fits ls l) (keeps (with-label ls l)) (wrong FrameInvalid)) (wrong FrameMalformed)
+label-step ls name (Some p) = cond (name-sized name && no-contents ls) (label-kept ls (record { name = name; position = p })) (wrong FrameMalformed)
 
 abbrev pub contents-step : Lists → Option Position → Step
 contents-step ls None = wrong FrameMalformed
-contents-step ls (Some p) = cond (heading-fits ls p) (keeps (with-heading ls p)) (wrong FrameInvalid)
+contents-step ls (Some p) = heading-kept ls p
 
 abbrev pub end-step : Lists → ℕ → ℕ → Step
 end-step ls a b = cond (eqb a (length (ls .labels)) && eqb b (length (ls .contents))) ends (wrong FrameInvalid)
