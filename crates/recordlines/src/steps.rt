@@ -1,11 +1,9 @@
 // What a frame does to the entries read so far.
 ghost use mathlib.Core.Path.{_≡_};
-ghost use mathlib.Core.Bool.{cond, _&&_};
+ghost use mathlib.Core.Bool.{_&&_};
 ghost use lib.ListN.{take, drop};
-ghost use Rattle.faults.specs.declared.cause.Cause.the-variants.{FrameInvalid as invalid-frame};
-ghost use Rattle.record.specs.Lists.{with-label, with-heading};
 ghost use Rattle.record.specs.Records.{record-lists};
-ghost use Rattle.recordlines.specs.Step.{step, keeps, wrong, position-from, name-sized, no-contents, label-fits, heading-fits, label-step, contents-step, end-step};
+ghost use Rattle.recordlines.specs.Step.{step, position-from, name-sized, no-contents, label-kept, heading-kept, label-step, contents-step, end-step};
 ghost use Rattle.recordlines.specs.Raw.{raw, raw-label, Does};
 use crate::positions::RawPosition;
 use crate::positions::contents_entry;
@@ -70,7 +68,7 @@ fn may_follow(entries: &Record, name: &[u8]) -> bool
 }
 
 fn add_label(entries: &mut Record, name: &[u8], position: RawPosition) -> Result<Told, Cause>
-    ensures { λ r. ⌜ Does (cond (label-fits (record-lists (now (entries .entry))) (raw-label (now (name .entry)) position)) (keeps (with-label (record-lists (now (entries .entry))) (raw-label (now (name .entry)) position))) (wrong invalid-frame)) r (record-lists (now (entries .entry))) (record-lists (now (entries .exit))) ⌝ }
+    ensures { λ r. ⌜ Does (label-kept (record-lists (now (entries .entry))) (raw-label (now (name .entry)) position)) r (record-lists (now (entries .entry))) (record-lists (now (entries .exit))) ⌝ }
 {
     let Some(entry) = label_entry(name, position) else {
         return Err(Cause::FrameInvalid);
@@ -92,7 +90,7 @@ fn take_contents(entries: &mut Record, tail: &[u8]) -> Result<Told, Cause>
 }
 
 fn add_contents(entries: &mut Record, position: RawPosition) -> Result<Told, Cause>
-    ensures { λ r. ⌜ Does (cond (heading-fits (record-lists (now (entries .entry))) (raw position)) (keeps (with-heading (record-lists (now (entries .entry))) (raw position))) (wrong invalid-frame)) r (record-lists (now (entries .entry))) (record-lists (now (entries .exit))) ⌝ }
+    ensures { λ r. ⌜ Does (heading-kept (record-lists (now (entries .entry))) (raw position)) r (record-lists (now (entries .entry))) (record-lists (now (entries .exit))) ⌝ }
 {
     let Some(entry) = contents_entry(position) else {
         return Err(Cause::FrameInvalid);
