@@ -1,14 +1,13 @@
 -- The steps of the greedy rule, and its sum.
-use mathlib.Core.Path.{_≡_, refl, sym, ap, _∙_}
+use mathlib.Core.Path.{_≡_, sym, ap, _∙_}
 use mathlib.Core.List.{List, [], _∷_, _++_}
 use Prim.Native.Nat.{ℕ, zero, suc, _+_, _-_, _*_, _/_, _%_, _≤_, _<_}
 use native.Mathlib.Nat.{mod-eq-of-lt, mod-eq-sub-mod, div-eq-of-lt, div-eq-sub-div, div-add-mod', mod-one, suc-mul}
 use native.Mathlib.Numerals.{add-one}
 use native.Mathlib.Omega.{arith}
-use lib.ListN.{length, drop, getD, replicate}
-use Rattle.std.specs.shelf.Lists.{joined}
+use lib.ListN.{drop, getD, replicate}
 use Rattle.std.proofs.shelf.Lists.{drop-more, drop-all}
-use Rattle.numerals.specs.Roman.{Row, rows, letters, chosen, values}
+use Rattle.numerals.specs.Roman.{Row, rows, chosen, values}
 
 at-row : (i : ℕ) (r : Row) → i < 12 → r ≡ getD rows i (0, 0, 0) → drop i rows ≡ r ∷ drop (i + 1) rows
 unfolding rows

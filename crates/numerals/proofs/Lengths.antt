@@ -1,11 +1,11 @@
 -- How long the texts are, and how a number's text is put together.
 use mathlib.Core.Path.{_≡_, refl, sym, ap, subst, _∙_}
-use mathlib.Core.Bool.{Bool, true, cond, _&&_}
-use mathlib.Core.List.{List, [], _∷_, _++_, append-nil, append-assoc}
+use mathlib.Core.Bool.{Bool, true, _&&_}
+use mathlib.Core.List.{List, _∷_, _++_, append-nil, append-assoc}
 use Prim.Native.Nat.{ℕ, zero, suc, _<_, _≤_}
 use native.Mathlib.Omega.{arith}
 use lib.Dec.{leb, ltb, T}
-use lib.ListN.{length, take}
+use lib.ListN.{length}
 use Rattle.std.proofs.shelf.Tests.{cond-both, leb-true, le-leb, and-from, and-parts}
 use Rattle.std.proofs.shelf.Ways.{tells, decides-below-and, when-true}
 use Rattle.std.specs.Orderings.{When}
@@ -16,7 +16,7 @@ use Rattle.numerals.specs.declared.style.NumeralStyle.{NumeralStyle}
 use Rattle.numerals.specs.Roman.{rows, roman}
 use Rattle.numerals.specs.Numeral.{decimal, is-page, numeral, Page-puts}
 use Rattle.numerals.specs.Sound.{number-ok}
-use Rattle.numerals.specs.Heading.{pointed, number-text}
+use Rattle.numerals.specs.Heading.{number-text}
 use Rattle.numerals.specs.declared.counters.Counters.{Counters}
 
 pub decimal-short : (n : ℕ) → length (decimal n) ≤ 3

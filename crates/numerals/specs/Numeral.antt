@@ -14,7 +14,7 @@ use lib.Dec.{leb, ltb, T}
 use lib.ListN.{length}
 use Rattle.std.specs.Orderings.{When}
 use Rattle.std.specs.declared.option.Option.{Option}
-use Rattle.std.specs.declared.option.Option.the-variants.{Some, None}
+use Rattle.std.specs.declared.option.Option.the-variants.{None}
 use Rattle.buffers.specs.Written.{Puts}
 use Rattle.numerals.specs.Roman.{rows, chosen, values, roman}
 use Rattle.numerals.specs.declared.style.NumeralStyle.{NumeralStyle}

@@ -1,20 +1,19 @@
 -- Names stay apart when a new one is added.
-use mathlib.Core.Path.{_≡_, refl, sym, ap, subst, _∙_}
-use mathlib.Core.Bool.{Bool, true, false, cond, _&&_, not}
+use mathlib.Core.Path.{_≡_, refl, sym, ap, _∙_}
+use mathlib.Core.Bool.{Bool, true, false, cond, not}
 use mathlib.Core.List.{List, [], _∷_, _++_}
-use Prim.Native.Nat.{ℕ, _<_}
+use Prim.Native.Nat.{ℕ}
 use native.Mathlib.Omega.{arith}
-use lib.ListN.{length}
 use Rattle.std.specs.Options.{isSome}
 use Rattle.std.specs.shelf.Text.{sameBytes}
 use Rattle.std.specs.declared.option.Option.{Option}
 use Rattle.std.specs.declared.option.Option.the-variants.{Some, None}
 use Rattle.std.proofs.shelf.Equals.{sameBytes-decides}
-use Rattle.std.proofs.shelf.Tests.{and-parts, and-from, not-true}
+use Rattle.std.proofs.shelf.Tests.{and-parts, and-from}
 use Rattle.std.proofs.shelf.Ways.{same-from-decides, decides-like}
 use Rattle.record.specs.Positions.{Label}
 use Rattle.record.specs.Labels.{later, place-of, distinct}
-use Rattle.record.specs.Lists.{Lists, with-label, with-heading, Changes}
+use Rattle.record.specs.Lists.{Lists, with-label, Changes}
 
 pub same-either-way : (a b : List ℕ) → sameBytes a b ≡ sameBytes b a
 same-either-way a b = same-from-decides _ _ (sameBytes-decides a b) (decides-like _ sym sym (sameBytes-decides b a))

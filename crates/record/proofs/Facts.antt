@@ -1,5 +1,5 @@
 -- What the types of entries and tables say of their plain values.
-use mathlib.Core.Path.{_≡_, ap, _∙_}
+use mathlib.Core.Path.{_≡_}
 use mathlib.Core.Bool.{true}
 use mathlib.Core.List.{List, [], _∷_, map}
 use Prim.Native.Nat.{_≤_}
@@ -8,7 +8,7 @@ use lib.ListN.{length}
 use Rattle.std.specs.shelf.Lists.{All}
 use Rattle.std.proofs.shelf.Lists.{length-map}
 use Rattle.std.proofs.shelf.Tests.{and-from, le-leb}
-use Rattle.record.specs.Positions.{Label, Position, label-ok, heading-ok}
+use Rattle.record.specs.Positions.{label-ok, heading-ok}
 use Rattle.record.specs.Lists.{lists-of}
 use Rattle.record.specs.Meaning.{label-of, position-of}
 use Rattle.record.specs.declared.entry.LabelEntry.{LabelEntry}

@@ -1,7 +1,7 @@
 -- The fronts of two lists that are compared from the start.
 use mathlib.Core.Path.{_≡_, sym, ap, _∙_}
 use mathlib.Core.List.{List}
-use Prim.Native.Nat.{ℕ, _+_, _<_, _≤_, min}
+use Prim.Native.Nat.{ℕ, _+_, _<_, min}
 use native.Mathlib.Omega.{arith}
 use lib.ListN.{length, take, getD, length-take}
 use Rattle.std.proofs.shelf.Lists.{take-more-same, getD-read, getD-take}

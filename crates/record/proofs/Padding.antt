@@ -1,14 +1,14 @@
 -- A name's bytes in their array, and what the rule of a name says of their number.
-use mathlib.Core.Path.{_≡_, refl, sym, ap, subst, _∙_}
-use mathlib.Core.Bool.{Bool, true, false, _&&_}
-use mathlib.Core.List.{List, [], _∷_, _++_}
+use mathlib.Core.Path.{_≡_, refl, sym, ap, _∙_}
+use mathlib.Core.Bool.{true, false, _&&_}
+use mathlib.Core.List.{List, [], _∷_}
 use Prim.Native.Nat.{ℕ, _+_, _-_, _≤_, _<_}
 use mathlib.Core.Logic.{⊎-elim}
 use native.Mathlib.Omega.{arith}
 use lib.Dec.{ltb, leb, eqb}
 use lib.ListN.{length, take, drop, replicate}
 use lib.Seq.{take-at, drop-at}
-use Rattle.std.proofs.shelf.Lists.{drop-replicate, length-replicate}
+use Rattle.std.proofs.shelf.Lists.{drop-replicate}
 use Rattle.std.proofs.shelf.Tests.{cond-both, and-parts, ltb-true, leb-true, eqb-true, cond-true, cond-false, cases-bool, false≢true}
 use Rattle.std.specs.shelf.Lists.{All, leading}
 use Rattle.std.proofs.shelf.Ways.{tells}

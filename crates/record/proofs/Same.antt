@@ -1,15 +1,14 @@
 -- Two values are the same where their parts are, whatever the proofs in them.
 use mathlib.Core.Path.{_≡_, sym, ap, _∙_}
 use mathlib.Core.HLevel.{isProp→PathP}
-use mathlib.Core.List.{List, _++_}
-use Prim.Native.Nat.{ℕ, _-_}
+use mathlib.Core.List.{_++_}
+use Prim.Native.Nat.{_-_}
 use native.Mathlib.Omega.{arith}
 use denote.Struct.Props.{props}
-use lib.ListN.{length, take, drop, replicate, take-append-drop}
+use lib.ListN.{length, replicate, take-append-drop}
 use lib.Seq.{length-take-le}
 use Rattle.numerals.proofs.Same.{number-same}
 use Rattle.record.specs.Naming.{name-bytes}
-use Rattle.record.specs.Positions.{Label, Position}
 use Rattle.record.specs.Meaning.{label-of, position-of}
 use Rattle.record.specs.declared.name.Name.{Name, long-type, right-type, padded-type}
 use Rattle.record.specs.declared.entry.LabelEntry as label

@@ -4,7 +4,7 @@
 --   distinct         no two labels have one name
 --   with-position    the labels with the i-th at another position; all else stays
 use mathlib.Core.Path.{_≡_, refl}
-use mathlib.Core.Bool.{Bool, true, cond, _&&_, not}
+use mathlib.Core.Bool.{Bool, true, false, cond, _&&_, not}
 use mathlib.Core.List.{List, [], _∷_}
 use Prim.Native.Nat.{ℕ, zero, suc, _+_}
 use lib.Chars.{codes}
@@ -30,3 +30,17 @@ abbrev pub with-position : List Label → ℕ → Position → List Label
 with-position [] i p = []
 with-position (l ∷ ls) zero p = record { name = l .name; position = p } ∷ ls
 with-position (l ∷ ls) (suc i) p = l ∷ with-position ls i p
+
+start : Position
+start = record { level = 0; counters = record { first = 0; second = 0; third = 0 }; page = 1 }
+
+label : List ℕ → Label
+label n = record { name = n; position = start }
+
+second : place-of (codes "b") (label (codes "a") ∷ label (codes "b") ∷ []) ≡ Some 1
+unfolding label start
+second = refl
+
+repeated : distinct (label (codes "a") ∷ label (codes "b") ∷ label (codes "a") ∷ []) ≡ false
+unfolding label start
+repeated = refl

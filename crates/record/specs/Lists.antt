@@ -5,18 +5,21 @@
 --   with-label       the lists with one more label at the end
 --   with-heading     the lists with one more contents entry at the end
 --   put-position     the lists with the i-th label at another position
---   Adds, Fills      what adding an entry and filling the i-th label answer and leave
+--   Changes          what a call that may refuse answers and leaves: where P holds the lists are changed, else they stay
+--   Adds-label, Adds-heading    one more entry, where there is room for it
+--   Adds-new-label   one more label, where its name is new and there is room for it
+--   Fills            another position for the i-th label, where there is one and the page is one
+--   Puts-label, Puts-heading    one more entry, where there is room for it and the position is right
 use mathlib.Core.Path.{_≡_}
 use mathlib.Core.Bool.{Bool}
 use mathlib.Core.List.{List, [], _∷_, _++_, map}
 use Prim.Native.Nat.{ℕ, _≤_, _<_}
-use lib.Dec.{T}
 use lib.ListN.{length}
 use Rattle.std.specs.Of.Vec.{vec-items}
 use Rattle.std.specs.Orderings.{When}
-use Rattle.numerals.specs.Numeral.{is-page}
+use Rattle.std.specs.declared.option.Option.the-variants.{None}
 use Rattle.record.specs.Positions.{Position, Label}
-use Rattle.record.specs.Labels.{with-position}
+use Rattle.record.specs.Labels.{place-of, with-position}
 use Rattle.record.specs.Meaning.{label-of, position-of}
 use Rattle.record.specs.declared.table.Table.{Table}
 
@@ -39,6 +42,23 @@ with-heading ls p = record { labels = ls .labels; contents = ls .contents ++ (p 
 abbrev pub put-position : Lists → ℕ → Position → Lists
 put-position ls i p = record { labels = with-position (ls .labels) i p; contents = ls .contents }
 
--- where P allows it the lists become `more`, else they stay
 abbrev pub Changes : Bool → Type 0 → Lists → Lists → Lists → Type 0
 Changes r P more before after = When r (P × (after ≡ more)) ((P → ⊥) × (after ≡ before))
+
+abbrev pub Adds-label : Bool → Lists → Label → Lists → Type 0
+Adds-label r ls l after = Changes r (length (ls .labels) < 128) (with-label ls l) ls after
+
+abbrev pub Adds-new-label : Bool → Lists → Label → Lists → Type 0
+Adds-new-label r ls l after = Changes r ((place-of (l .name) (ls .labels) ≡ None) × (length (ls .labels) < 128)) (with-label ls l) ls after
+
+abbrev pub Adds-heading : Bool → Lists → Position → Lists → Type 0
+Adds-heading r ls p after = Changes r (length (ls .contents) < 128) (with-heading ls p) ls after
+
+abbrev pub Fills : Bool → Lists → ℕ → Position → Lists → Type 0
+Fills r ls i p after = Changes r ((i < length (ls .labels)) × (1 ≤ p .page) × (p .page ≤ 999)) (put-position ls i p) ls after
+
+abbrev pub Puts-label : Bool → Lists → Label → Lists → Type 0
+Puts-label r ls l after = Changes r ((length (ls .labels) < 128) × (1 ≤ l .position .page) × (l .position .page ≤ 999)) (with-label ls l) ls after
+
+abbrev pub Puts-heading : Bool → Lists → Position → Lists → Type 0
+Puts-heading r ls p after = Changes r ((length (ls .contents) < 128) × (1 ≤ p .level) × (1 ≤ p .page) × (p .page ≤ 999)) (with-heading ls p) ls after

@@ -1,5 +1,4 @@
 // The entries of a record: where a label's word and where a heading stands.
-ghost use mathlib.Core.Path.{_≡_};
 ghost use Prim.Native.Nat.{_≤_};
 use crate::name::Name;
 use numerals::HeadingNumber;

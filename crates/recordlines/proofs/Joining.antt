@@ -7,8 +7,8 @@ use lib.ListN.{length, drop, getD, length-append}
 use Rattle.std.specs.shelf.Lists.{joined}
 use Rattle.std.proofs.shelf.Lists.{drop-more, drop-all, getD-default}
 use Rattle.buffers.specs.Written.{written}
-use Rattle.buffers.proofs.Writing.{written-none, written-more, length-written}
-use Rattle.recordlines.specs.Hex.{hex, hex-pair}
+use Rattle.buffers.proofs.Writing.{written-more, length-written}
+use Rattle.recordlines.specs.Hex.{hex}
 use Rattle.record.specs.Positions.{Label, Position}
 use Rattle.record.specs.Lists.{Lists}
 use Rattle.recordlines.specs.Frame.{line, lines, label-frame, contents-frame, end-frame, label-line, contents-line}

@@ -1,21 +1,17 @@
 -- What saving writes loads as the same lists.
 use mathlib.Core.Path.{_≡_, refl, sym, ap, subst, _∙_}
-use mathlib.Core.Bool.{Bool, true, false, cond, _&&_, not}
+use mathlib.Core.Bool.{true, false}
 use mathlib.Core.List.{List, [], _∷_, _++_, append-assoc, append-nil}
-use Prim.Native.Nat.{ℕ, zero, suc, _+_, _*_, _/_, _%_, _<_, _≤_}
-use native.Mathlib.Nat.{div-add-mod', add-zero, add-assoc}
+use Prim.Native.Nat.{ℕ, suc, _+_, _/_, _%_, _<_, _≤_}
+use native.Mathlib.Nat.{div-add-mod', add-zero}
 use native.Mathlib.Omega.{arith}
 use lib.Dec.{leb, ltb, eqb}
-use lib.ListN.{length, take, drop, length-append}
+use lib.ListN.{length, length-append}
 use lib.Seq.{take-at, drop-at}
-use Rattle.std.specs.Options.{isSome}
-use Rattle.std.specs.shelf.Lists.{joined, All, leading}
-use Rattle.std.specs.shelf.Text.{sameBytes}
-use Rattle.std.specs.declared.option.Option.{Option}
-use Rattle.std.specs.declared.option.Option.the-variants.{Some, None}
-use Rattle.std.proofs.shelf.Tests.{cond-true, cond-both, and-parts, and-from, eqb-true, eq-eqb, ne-eqb, le-leb, leb-true}
-use Rattle.faults.specs.declared.cause.Cause.the-variants.{FrameMalformed, FrameInvalid}
-use Rattle.names.specs.Name.{naming, name-byte}
+use Rattle.std.specs.shelf.Lists.{joined, All}
+use Rattle.std.specs.declared.option.Option.the-variants.{Some}
+use Rattle.std.proofs.shelf.Tests.{cond-true, cond-both, and-parts, and-from, eq-eqb, ne-eqb, le-leb, leb-true}
+use Rattle.names.specs.Name.{naming}
 use Rattle.names.specs.declared.Naming.{Naming}
 use Rattle.names.specs.declared.Naming.the-variants.{Right, WrongLength, WrongCharacter}
 use Rattle.numerals.specs.Numeral.{is-page}
@@ -23,14 +19,14 @@ use Rattle.numerals.specs.Sound.{number-ok}
 use Rattle.numerals.proofs.Lengths.{level-bound, counters-bound}
 use Rattle.record.specs.Right.{name-ok, is-right}
 use Rattle.record.specs.Positions.{Position, Label, position-ok, label-ok, heading-ok}
-use Rattle.record.specs.Labels.{later, place-of, distinct}
-use Rattle.record.specs.Lists.{Lists, no-entries, with-label, with-heading}
+use Rattle.record.specs.Labels.{distinct}
+use Rattle.record.specs.Lists.{Lists, with-label, with-heading}
 use Rattle.record.proofs.Padding.{name-length, name-bytes-small}
 use Rattle.record.proofs.Apart.{absent-before}
-use Rattle.recordlines.specs.Hex.{hex, hex-digit, bytes-of}
+use Rattle.recordlines.specs.Hex.{hex, hex-digit}
 use Rattle.recordlines.specs.Frame.{position-bytes, label-frame, contents-frame, end-frame, line, label-line, contents-line, lines}
-use Rattle.recordlines.specs.Step.{Step, keeps, ends, wrong, position-from, name-sized, sized, no-contents, label-fits, heading-fits, label-step, contents-step, end-step, step, decoded, frame-step, line-step}
-use Rattle.recordlines.specs.Load.{Outcome, accepted, split, longer, Text, read, closed, go-on, loaded}
+use Rattle.recordlines.specs.Step.{keeps, ends, position-from, name-sized, sized, label-fits, heading-fits, label-step, contents-step, step, decoded, frame-step, line-step}
+use Rattle.recordlines.specs.Load.{Outcome, accepted, split, Text, read, closed, go-on, loaded}
 use Rattle.recordlines.proofs.Joining.{length-hex}
 use Rattle.recordlines.proofs.Digits.{Byte, spells-bytes}
 use Rattle.recordlines.proofs.Splitting.{split-line}

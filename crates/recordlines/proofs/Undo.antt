@@ -3,7 +3,7 @@ use mathlib.Core.Path.{_≡_, refl, sym, ap, subst, _∙_}
 use mathlib.Core.Bool.{Bool, true, false, cond, _&&_}
 use mathlib.Core.List.{List, [], _∷_, _++_, append-assoc, append-nil}
 use mathlib.Core.Logic.{_⊎_, inl, inr, ⊎-elim}
-use Prim.Native.Nat.{ℕ, zero, suc, _+_, _*_, _/_, _%_, _<_, _≤_}
+use Prim.Native.Nat.{ℕ, zero, suc, _+_, _*_, _/_, _%_, _<_}
 use native.Mathlib.Omega.{arith}
 use lib.Dec.{leb, eqb}
 use lib.ListN.{length, take, drop, length-take, length-drop, take-append-drop}
@@ -17,9 +17,9 @@ use Rattle.faults.specs.declared.cause.Cause.the-variants.{FrameMalformed, Fram
 use Rattle.record.specs.Positions.{Position, Label}
 use Rattle.record.specs.Lists.{Lists, no-entries, with-label, with-heading}
 use Rattle.recordlines.specs.Hex.{hex, bytes-of}
-use Rattle.recordlines.specs.Frame.{position-bytes, label-frame, contents-frame, end-frame, line, label-line, contents-line, lines}
-use Rattle.recordlines.specs.Step.{Step, keeps, ends, wrong, position-from, name-sized, no-contents, label-fits, heading-fits, label-step, contents-step, end-step, step, decoded, frame-step, line-step}
-use Rattle.recordlines.specs.Load.{Outcome, accepted, refused, split, read, closed, go-on, loaded}
+use Rattle.recordlines.specs.Frame.{position-bytes, label-frame, end-frame, line, label-line, contents-line, lines}
+use Rattle.recordlines.specs.Step.{Step, keeps, ends, wrong, position-from, name-sized, no-contents, label-fits, heading-fits, label-step, contents-step, step, decoded, frame-step, line-step}
+use Rattle.recordlines.specs.Load.{accepted, split, read, closed, go-on, loaded}
 use Rattle.recordlines.proofs.Joining.{joined-append}
 use Rattle.recordlines.proofs.Digits.{Byte, bytes-spelled}
 use Rattle.recordlines.proofs.Splitting.{rejoined}

@@ -3,11 +3,12 @@
 --   Step             one entry more, the end, or a cause to refuse
 --   step             what a frame does: told by its first byte, malformed before invalid
 --   decoded          the frame of a line's digits; no frame has more than 24 bytes
+--   Decodes          what decoding a line into a buffer answers and leaves
 --   line-step        what a line does
 use mathlib.Core.Path.{_≡_, refl}
 use mathlib.Core.Bool.{Bool, true, false, cond, _&&_, not}
 use mathlib.Core.List.{List, [], _∷_}
-use Prim.Native.Nat.{ℕ, _+_, _*_}
+use Prim.Native.Nat.{ℕ, _+_, _*_, _≤_}
 use lib.Dec.{eqb, leb, ltb}
 use lib.ListN.{length, take, drop}
 use Rattle.std.specs.Options.{isSome}
@@ -18,9 +19,10 @@ use Rattle.faults.specs.declared.cause.Cause.the-variants.{FrameMalformed, Fram
 use Rattle.names.specs.Name.{naming}
 use Rattle.names.specs.declared.Naming.{Naming}
 use Rattle.names.specs.declared.Naming.the-variants.{Right, WrongLength, WrongCharacter}
+use Rattle.numerals.specs.Sound.{number-ok}
 use Rattle.record.specs.Positions.{Position, Label, label-ok, heading-ok}
 use Rattle.record.specs.Labels.{place-of}
-use Rattle.record.specs.Lists.{Lists, with-label, with-heading}
+use Rattle.record.specs.Lists.{Lists, no-entries, with-label, with-heading}
 use Rattle.recordlines.specs.Hex.{bytes-of}
 
 abbrev pub position-from : List ℕ → Option Position
@@ -88,9 +90,25 @@ step ls (k ∷ rest) =
 abbrev pub decoded : List ℕ → Option (List ℕ)
 decoded digits = cond (leb (length digits) 48) (bytes-of digits) None
 
+abbrev pub Decodes : List ℕ → Option ℕ → List ℕ → Type 0
+Decodes digits None after = decoded digits ≡ None
+Decodes digits (Some n) after = (decoded digits ≡ Some (take n after)) × (n ≤ 24)
+
 abbrev pub frame-step : Lists → Option (List ℕ) → Step
 frame-step ls None = wrong FrameMalformed
 frame-step ls (Some f) = step ls f
 
 unfoldable pub line-step : Lists → List ℕ → Step
 line-step ls digits = frame-step ls (decoded digits)
+
+no-name : step no-entries (76 ∷ 0 ∷ 1 ∷ 1 ∷ 0 ∷ 0 ∷ 0 ∷ 2 ∷ []) ≡ wrong FrameMalformed
+unfolding name-sized
+no-name = refl
+
+no-heading : step no-entries (67 ∷ 0 ∷ 0 ∷ 0 ∷ 0 ∷ 0 ∷ 1 ∷ []) ≡ wrong FrameInvalid
+unfolding heading-fits
+no-heading = refl
+
+page-1000 : step no-entries (67 ∷ 1 ∷ 1 ∷ 0 ∷ 0 ∷ 3 ∷ 232 ∷ []) ≡ wrong FrameInvalid
+unfolding heading-fits number-ok
+page-1000 = refl

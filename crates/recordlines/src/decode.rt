@@ -1,12 +1,9 @@
 // From digits to bytes.
 ghost use mathlib.Core.Path.{_≡_};
-ghost use Prim.Native.Nat.{_<_, _≤_};
-ghost use lib.ListN.{length, take};
-ghost use Rattle.std.specs.Options.{Cases as BySome};
+ghost use Prim.Native.Nat.{_<_};
 ghost use Rattle.std.specs.Slices.{found};
-ghost use Rattle.std.specs.declared.option.Option.the-variants.{Some as given, None as nothing};
 ghost use Rattle.recordlines.specs.Hex.{digit-value, pair-value};
-ghost use Rattle.recordlines.specs.Step.{decoded};
+ghost use Rattle.recordlines.specs.Step.{Decodes};
 
 // The value of an upper-case hexadecimal digit.
 fn digit_value(b: u8) -> Option<u8>
@@ -31,7 +28,7 @@ fn pair_value(high: u8, low: u8) -> Option<u8>
 
 // Decodes the digits of a line into the front of `out`, and answers how many bytes they spell.
 pub fn decode(digits: &[u8], out: &mut [u8; 24]) -> Option<usize>
-    ensures { λ r. ⌜ BySome r (decoded (now (digits .entry)) ≡ nothing) (λ n. (decoded (now (digits .entry)) ≡ given (take n (now (out .exit)))) × (n ≤ 24)) ⌝ }
+    ensures { λ r. ⌜ Decodes (now (digits .entry)) r (now (out .exit)) ⌝ }
 {
     if digits.len() > 48 {
         return None;

@@ -4,7 +4,7 @@ ghost use mathlib.Core.List.{List};
 ghost use Prim.Native.Nat.{ℕ, _≤_};
 ghost use lib.ListN.{length};
 ghost use Rattle.buffers.specs.Written.{written};
-ghost use Rattle.record.specs.Meaning.{label-of, position-of};
+ghost use Rattle.record.specs.Meaning.{label-of, placed, position-of};
 ghost use Rattle.recordlines.specs.Frame.{position-bytes, label-frame, contents-frame};
 use buffers::write;
 use numerals::HeadingNumber;
@@ -30,7 +30,7 @@ pub trait Framed {
 // Level, counters, page high, page low.
 fn position_bytes(number: HeadingNumber, page: u16) -> [u8; 6]
     requires { ⌜ page ≤ 999 ⌝ }
-    ensures { λ r. ⌜ r ≡ position-bytes (record { level = number .level; counters = number .counters; page = page }) ⌝ }
+    ensures { λ r. ⌜ r ≡ position-bytes (placed number page) ⌝ }
 {
     let counters = number.counters;
     [

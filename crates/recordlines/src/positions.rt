@@ -1,5 +1,4 @@
 // Positions and entries from a frame's bytes.
-ghost use mathlib.Core.Path.{_≡_};
 ghost use Rattle.record.specs.Meaning.{label-of, position-of};
 ghost use Rattle.record.specs.Positions.{label-ok, heading-ok};
 ghost use Rattle.recordlines.specs.Raw.{raw, raw-label, Reads, Makes};

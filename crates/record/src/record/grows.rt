@@ -1,14 +1,10 @@
 // How a record is made, read, compared and added to.
 ghost use mathlib.Core.Path.{_≡_};
 ghost use mathlib.Core.Bool.{true};
-ghost use Prim.Native.Nat.{_<_};
-ghost use lib.ListN.{length};
 ghost use Rattle.std.specs.Orderings.{Decides};
 ghost use Rattle.std.specs.Vec.{made};
-ghost use Rattle.std.specs.declared.option.Option.the-variants.{None as nowhere};
-ghost use Rattle.record.specs.Naming.{name-bytes};
-ghost use Rattle.record.specs.Labels.{distinct, place-of};
-ghost use Rattle.record.specs.Lists.{lists-of, no-entries, with-label, with-heading, Changes};
+ghost use Rattle.record.specs.Labels.{distinct};
+ghost use Rattle.record.specs.Lists.{lists-of, no-entries, Adds-new-label, Adds-heading};
 ghost use Rattle.record.specs.Meaning.{label-of, position-of};
 ghost use Rattle.record.specs.Records.{record-lists};
 use super::Record;
@@ -43,7 +39,7 @@ impl Record {
 
     // Adds a label entry at the end. Answers whether its name is new and there was room.
     pub fn add_label(&mut self, entry: LabelEntry) -> bool
-        ensures { λ r. ⌜ Changes r ((place-of (name-bytes (entry .name)) (record-lists (now (self .entry)) .labels) ≡ nowhere) × (length (record-lists (now (self .entry)) .labels) < 128)) (with-label (record-lists (now (self .entry))) (label-of entry)) (record-lists (now (self .entry))) (record-lists (now (self .exit))) ⌝ }
+        ensures { λ r. ⌜ Adds-new-label r (record-lists (now (self .entry))) (label-of entry) (record-lists (now (self .exit))) ⌝ }
     {
         if self.table.find(&entry.name).is_some() {
             return false;
@@ -53,7 +49,7 @@ impl Record {
 
     // Adds a contents entry at the end. Answers whether there was room.
     pub fn add_contents(&mut self, entry: ContentsEntry) -> bool
-        ensures { λ r. ⌜ Changes r (length (record-lists (now (self .entry)) .contents) < 128) (with-heading (record-lists (now (self .entry))) (position-of entry)) (record-lists (now (self .entry))) (record-lists (now (self .exit))) ⌝ }
+        ensures { λ r. ⌜ Adds-heading r (record-lists (now (self .entry))) (position-of entry) (record-lists (now (self .exit))) ⌝ }
     {
         self.table.add_contents(entry)
     }

@@ -1,15 +1,15 @@
 // How a table is filled: an entry is lent, and it alone changes.
 ghost use mathlib.Core.Path.{_≡_};
-ghost use mathlib.Core.List.{[], _∷_, _++_};
-ghost use Prim.Native.Nat.{_≤_, _<_};
-ghost use lib.ListN.{getD, length};
+ghost use Prim.Native.Nat.{_<_};
+ghost use lib.ListN.{getD};
 ghost use ghost.Atoms.{sem};
 ghost use denote.Follow.{follows};
 ghost use denote.Ref.{name as name-of};
 ghost use Rattle.std.specs.Changed.{with-item};
 ghost use Rattle.std.specs.Of.Vec.{vec-items, vec-len};
 ghost use Rattle.record.specs.Naming.{name-bytes};
-ghost use Rattle.record.specs.Lists.{lists-of, put-position, with-label, with-heading, Changes};
+ghost use Rattle.record.specs.Lists.{lists-of, Fills, Puts-label, Puts-heading};
+ghost use Rattle.record.specs.Meaning.{placed};
 ghost use Rattle.record.specs.contracts.table.Table.{the-row as table-row};
 ghost use Rattle.record.specs.contracts.entry.LabelEntry.{the-row as label-row};
 use super::Table;
@@ -29,7 +29,7 @@ impl Table {
 
     // Gives the i-th label entry its number and page, and answers whether there is such an entry and page; all else stays.
     pub fn fill(&mut self, i: usize, number: HeadingNumber, page: u16) -> bool
-        ensures { λ r. ⌜ Changes r ((i < length (lists-of (now (self .entry)) .labels)) × (1 ≤ page) × (page ≤ 999)) (put-position (lists-of (now (self .entry))) i (record { level = number .level; counters = number .counters; page = page })) (lists-of (now (self .entry))) (lists-of (now (self .exit))) ⌝ }
+        ensures { λ r. ⌜ Fills r (lists-of (now (self .entry))) i (placed number page) (lists-of (now (self .exit))) ⌝ }
     {
         if i >= self.labels.len() {
             return false;
@@ -48,7 +48,7 @@ impl Table {
 
     // Adds an entry for a label at the end and fills it. Answers whether there was room, and the page is one.
     pub fn put_label(&mut self, name: Name, number: HeadingNumber, page: u16) -> bool
-        ensures { λ r. ⌜ Changes r ((length (lists-of (now (self .entry)) .labels) < 128) × (1 ≤ page) × (page ≤ 999)) (with-label (lists-of (now (self .entry))) (record { name = name-bytes name; position = record { level = number .level; counters = number .counters; page = page } })) (lists-of (now (self .entry))) (lists-of (now (self .exit))) ⌝ }
+        ensures { λ r. ⌜ Puts-label r (lists-of (now (self .entry))) (record { name = name-bytes name; position = placed number page }) (lists-of (now (self .exit))) ⌝ }
     {
         if page == 0 {
             return false;
@@ -70,7 +70,7 @@ impl Table {
 
     // Adds a contents entry at the end. Answers whether there was room, the number is a heading's and the page is one.
     pub fn put_contents(&mut self, number: HeadingNumber, page: u16) -> bool
-        ensures { λ r. ⌜ Changes r ((length (lists-of (now (self .entry)) .contents) < 128) × (1 ≤ number .level) × (1 ≤ page) × (page ≤ 999)) (with-heading (lists-of (now (self .entry))) (record { level = number .level; counters = number .counters; page = page })) (lists-of (now (self .entry))) (lists-of (now (self .exit))) ⌝ }
+        ensures { λ r. ⌜ Puts-heading r (lists-of (now (self .entry))) (placed number page) (lists-of (now (self .exit))) ⌝ }
     {
         if number.level == 0 {
             return false;

@@ -1,11 +1,7 @@
-use mathlib.Core.Path.{_≡_, refl}
-use mathlib.Core.Bool.{Bool, true, _&&_}
-use Prim.Native.Nat.{ℕ, zero, suc, _<_, _≤_}
+use Prim.Native.Nat.{_≤_}
 use native.Mathlib.Omega.{arith}
-use lib.Dec.{leb, T}
 use lib.ListN.{length}
-use Rattle.numerals.specs.Roman.{roman}
-use Rattle.numerals.specs.Numeral.{is-page, numeral}
+use Rattle.numerals.specs.Numeral.{numeral}
 use Rattle.numerals.specs.declared.style.NumeralStyle.the-variants.{Decimal, Roman}
 use Rattle.numerals.proofs.Greedy.{values-all}
 use Rattle.numerals.proofs.Lengths.{decimal-short, roman-short, page-bounds}

@@ -1,9 +1,7 @@
-use mathlib.Core.Path.{_≡_, sym, ap, _∙_}
-use Prim.Native.Nat.{_+_, _<_, _≤_}
+use mathlib.Core.Path.{sym, ap, _∙_}
 use native.Mathlib.Omega.{arith}
 use lib.ListN.{length}
 use Rattle.buffers.specs.Written.{written}
-use Rattle.numerals.specs.Roman.{roman}
 use Rattle.numerals.specs.Numeral.{numeral}
 use Rattle.numerals.proofs.Lengths.{roman-short}
 use Rattle.numerals.proofs.pages.write_numeral.Needs as need

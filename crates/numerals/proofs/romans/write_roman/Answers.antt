@@ -1,12 +1,11 @@
-use mathlib.Core.Path.{_≡_, refl, sym, ap, _∙_}
-use mathlib.Core.List.{List, [], _∷_, _++_}
-use Prim.Native.Nat.{ℕ, _+_, _-_, _≤_, _<_}
+use mathlib.Core.Path.{sym, ap, _∙_}
+use Prim.Native.Nat.{_+_, _-_, _≤_}
 use native.Mathlib.Omega.{arith}
-use lib.ListN.{length, drop, getD, length-append}
+use lib.ListN.{length, drop, length-append}
 use Rattle.std.specs.shelf.Lists.{joined}
 use Rattle.buffers.specs.Written.{written}
 use Rattle.buffers.proofs.Writing.{written-none, written-more, length-written}
-use Rattle.numerals.specs.Roman.{Row, rows, letters, chosen, roman}
+use Rattle.numerals.specs.Roman.{rows, letters, chosen}
 use Rattle.numerals.proofs.Greedy.{takes, passes, ends}
 use Rattle.numerals.proofs.romans.write_roman.Needs as need
 

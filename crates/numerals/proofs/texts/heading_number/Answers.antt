@@ -1,8 +1,6 @@
-use mathlib.Core.Path.{_≡_, ap, subst, _∙_}
+use mathlib.Core.Path.{subst}
 use mathlib.Core.List.{List}
 use Prim.Native.Nat.{ℕ, _-_}
-use native.Mathlib.Omega.{arith}
-use lib.ListN.{length, take}
 use Rattle.buffers.specs.Written.{Puts}
 use Rattle.buffers.proofs.Writing.{front-is}
 use Rattle.numerals.proofs.texts.heading_number.Needs as need

@@ -1,5 +1,3 @@
-use mathlib.Core.Path.{_≡_, sym, ap, _∙_}
-use mathlib.Core.Bool.{not}
 use Rattle.std.proofs.shelf.Ways.{decides-at}
 use Rattle.record.proofs.Whole.{no-difference, none-is}
 use Rattle.record.proofs.compare.equal_lists.Needs as need

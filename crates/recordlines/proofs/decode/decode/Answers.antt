@@ -1,14 +1,14 @@
-use mathlib.Core.Path.{_≡_, refl, sym, ap, _∙_}
-use mathlib.Core.List.{List, [], _∷_, _++_}
-use Prim.Native.Nat.{ℕ, _+_, _*_, _≤_, _<_}
+use mathlib.Core.Path.{_≡_, sym, ap, _∙_}
+use mathlib.Core.List.{[], _∷_}
+use Prim.Native.Nat.{_≤_, _<_}
 use native.Mathlib.Omega.{arith}
-use borrow.Author.Tests.{ltb-false, ltb-true}
+use borrow.Author.Tests.{ltb-false}
 use borrow.Author.Needs.{needs}
-use lib.ListN.{length, getD, take, set}
+use lib.ListN.{length, take}
 use Rattle.std.proofs.shelf.Lists.{take-more-set, take-rest, length-drop, length-set}
 use Rattle.std.specs.shelf.Lists.{between}
 use Rattle.std.proofs.shelf.Tests.{cond-false, lt-leb}
-use Rattle.recordlines.specs.Hex.{after, then, pair-value, bytes-of}
+use Rattle.recordlines.specs.Hex.{after, then, bytes-of}
 use Rattle.recordlines.proofs.Pairs.{after-none, after-more, pair}
 use Rattle.recordlines.proofs.decode.decode.Needs as need
 

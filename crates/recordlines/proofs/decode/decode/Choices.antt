@@ -1,5 +1,5 @@
 use mathlib.Core.Path.{_≡_}
-use Prim.Native.Nat.{_+_, _*_, _≤_}
+use Prim.Native.Nat.{_+_, _*_}
 use lib.ListN.{length, take}
 use Rattle.recordlines.specs.Hex.{after, bytes-of}
 use Rattle.recordlines.proofs.decode.decode.Given as given

@@ -1,6 +1,3 @@
-use Prim.Native.Nat.{_+_, _≤_}
-use native.Mathlib.Omega.{arith}
-use lib.ListN.{length}
 use Rattle.recordlines.proofs.Splitting.{no-newline, next-line}
 use Rattle.recordlines.proofs.reads.next_line.Needs as need
 

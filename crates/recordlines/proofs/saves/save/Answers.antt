@@ -1,4 +1,4 @@
-use mathlib.Core.Path.{_≡_, subst}
+use mathlib.Core.Path.{subst}
 use Rattle.record.specs.Lists.{Lists}
 use Rattle.record.specs.Records.{record-lists}
 use Rattle.record.proofs.Facts.{labels-ok, contents-ok, few-labels, few-contents}

@@ -1,10 +1,9 @@
-use mathlib.Core.Path.{_≡_, refl, sym, ap, _∙_}
-use Prim.Native.Nat.{ℕ, _+_, _≤_, _<_}
+use mathlib.Core.Path.{sym, ap, _∙_}
 use native.Mathlib.Omega.{arith}
-use lib.ListN.{length, drop, getD, length-append}
+use lib.ListN.{length, getD, length-append}
 use Rattle.buffers.specs.Written.{written}
 use Rattle.buffers.proofs.Writing.{written-none}
-use Rattle.recordlines.specs.Hex.{hex, hex-pair}
+use Rattle.recordlines.specs.Hex.{hex-pair}
 use Rattle.recordlines.proofs.Joining.{at-element, at-end, wrote-part, getD-again}
 use Rattle.recordlines.proofs.writes.write_hex.Needs as need
 

@@ -1,4 +1,4 @@
-use mathlib.Core.Path.{_≡_, sym, ap, _∙_}
+use mathlib.Core.Path.{ap, _∙_}
 use Rattle.record.specs.Right.{name-ok}
 use Rattle.record.proofs.Padding.{right-ok, wrong-ok, name-length, padded-long, padded-front, padded-rest}
 use Rattle.record.proofs.name.Name.new.Needs as need

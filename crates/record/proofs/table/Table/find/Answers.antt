@@ -1,10 +1,10 @@
-use mathlib.Core.Path.{_≡_, sym, ap, _∙_}
-use mathlib.Core.Bool.{true}
+use mathlib.Core.Path.{sym, _∙_}
 use Prim.Native.Nat.{_<_, _≤_}
 use native.Mathlib.Omega.{arith}
 use borrow.Author.Needs.{needs}
 use lib.ListN.{length}
-use Rattle.record.specs.Naming.{name-bytes}
+use Rattle.std.proofs.shelf.Lists.{length-map}
+use Rattle.record.specs.Meaning.{label-of}
 use Rattle.record.proofs.Places.{name-test, later-none, found-here, not-here, nowhere}
 use Rattle.record.proofs.table.Table.find.Needs as need
 
@@ -18,7 +18,7 @@ returns-then-eq c =
     let x = c .index .result .now in
     let within : i < length es = search needs in
     let test = name-test (x .name) (c .args .name .now) _ (c .eq .ensures) ∙ c .if-eq .taken in
-    sym (found-here es _ i x within (c .index .ensures) test) ∙ c .loop-i .inv
+    record { value = sym (found-here es _ i x within (c .index .ensures) test) ∙ c .loop-i .inv; bound = omega (arith, length-map es label-of) }
 
 pub loop-i-again : need.loop-i-again
 loop-i-again c =
@@ -34,4 +34,4 @@ returns c =
     let es = c .args .self .now .labels .items in
     let i = c .loop-i .i in
     let past : length es ≤ i = search needs in
-    sym (nowhere es _ i past) ∙ c .loop-i .inv
+    record { value = sym (nowhere es _ i past) ∙ c .loop-i .inv; bound = tt }
