@@ -1,6 +1,6 @@
 // Saving a record as lines.
 ghost use mathlib.Core.Path.{_≡_};
-ghost use Prim.Native.Nat.{_+_, _*_, _≤_};
+ghost use Prim.Native.Nat.{_+_, _*_, _^_, _<_, _≤_};
 ghost use lib.ListN.{length};
 ghost use Rattle.std.specs.shelf.Lists.{joined};
 ghost use Rattle.buffers.specs.Written.{written};
@@ -45,11 +45,19 @@ fn write_lines<E: Framed>(entries: &[E], out: &mut [u8], at: usize) -> usize
     end
 }
 
+// How many bytes the entries of a table take; the line of the end frame comes besides.
+fn entries_length(table: &Table) -> usize
+    ensures value { λ r. ⌜ r + 7 ≡ length (lines (lists-of (now (table .entry)))) ⌝ }
+    ensures bound { λ r. ⌜ r < 2 ^ 32 ⌝ }
+{
+    lines_length(table.labels()) + lines_length(table.contents())
+}
+
 // How many bytes saving writes.
 pub fn saved_length(table: &Table) -> usize
     ensures value { λ r. ⌜ r ≡ length (lines (lists-of (now (table .entry)))) ⌝ }
 {
-    lines_length(table.labels()) + lines_length(table.contents()) + 7
+    entries_length(table) + 7
 }
 
 // Writes the lines of a table at the front of the buffer and answers their count, or changes nothing where it is too short.
@@ -66,10 +74,18 @@ pub fn save_table(table: &Table, out: &mut [u8]) -> Result<usize, Fault>
     Ok(write_line(&[0x45, labels, contents], out, end))
 }
 
+// What is written of a record loads as the same record.
+fn loads_again(saved: &Record)
+    ensures { λ _. ⌜ Loads-again (record-lists (now (saved .entry))) ⌝ }
+{
+    let _ = saved;
+}
+
 // Saves a record. What is written loads as the same record.
 pub fn save(saved: &Record, out: &mut [u8]) -> Result<usize, Fault>
     ensures value { λ r. ⌜ Saves (record-lists (now (saved .entry))) (now (out .entry)) r (now (out .exit)) ⌝ }
     ensures loads { λ _. ⌜ Loads-again (record-lists (now (saved .entry))) ⌝ }
 {
+    loads_again(saved);
     save_table(saved.table(), out)
 }

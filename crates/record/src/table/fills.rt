@@ -1,14 +1,16 @@
 // How a table is filled: an entry is lent, and it alone changes.
 ghost use mathlib.Core.Path.{_≡_};
-ghost use Prim.Native.Nat.{_<_};
-ghost use lib.ListN.{getD};
+ghost use Prim.Native.Nat.{_<_, _≤_};
+ghost use mathlib.Core.Bool.{true};
+ghost use lib.Dec.{ltb};
+ghost use lib.ListN.{getD, length};
 ghost use ghost.Atoms.{sem};
 ghost use denote.Follow.{follows};
 ghost use denote.Ref.{name as name-of};
 ghost use Rattle.std.specs.Changed.{with-item};
 ghost use Rattle.std.specs.Of.Vec.{vec-items, vec-len};
 ghost use Rattle.record.specs.Naming.{name-bytes};
-ghost use Rattle.record.specs.Lists.{lists-of, Fills, Puts-label, Puts-heading};
+ghost use Rattle.record.specs.Lists.{lists-of, put-position, Adds-label, Fills, Puts-label, Puts-heading};
 ghost use Rattle.record.specs.Meaning.{placed};
 ghost use Rattle.record.specs.contracts.table.Table.{the-row as table-row};
 ghost use Rattle.record.specs.contracts.entry.LabelEntry.{the-row as label-row};
@@ -27,11 +29,31 @@ impl Table {
         &mut self.labels[i]
     }
 
+    // Gives a label entry its number and page; all else stays.
+    fn fill_entry(&mut self, i: usize, number: HeadingNumber, page: u16)
+        requires { ⌜ i < vec-len (now self .labels) ⌝ }
+        requires { ⌜ (1 ≤ page) × (page ≤ 999) ⌝ }
+        ensures place { λ _. ⌜ i < length (lists-of (now (self .entry)) .labels) ⌝ }
+        ensures after { λ _. ⌜ lists-of (now (self .exit)) ≡ put-position (lists-of (now (self .entry))) i (placed number page) ⌝ }
+    {
+        let entry = self.entry(i);
+        entry.number = number;
+        entry.page = page;
+    }
+
+    // Whether there is an i-th label entry.
+    fn has_label(&self, i: usize) -> bool
+        ensures value { λ r. ⌜ r ≡ ltb i (length (lists-of (now (self .entry)) .labels)) ⌝ }
+        ensures within { λ r. ⌜ (r ≡ true → i < vec-len (now (self .entry) .labels)) ⌝ }
+    {
+        i < self.labels.len()
+    }
+
     // Gives the i-th label entry its number and page, and answers whether there is such an entry and page; all else stays.
     pub fn fill(&mut self, i: usize, number: HeadingNumber, page: u16) -> bool
         ensures { λ r. ⌜ Fills r (lists-of (now (self .entry))) i (placed number page) (lists-of (now (self .exit))) ⌝ }
     {
-        if i >= self.labels.len() {
+        if !self.has_label(i) {
             return false;
         }
         if page == 0 {
@@ -40,9 +62,7 @@ impl Table {
         if page > 999 {
             return false;
         }
-        let entry = self.entry(i);
-        entry.number = number;
-        entry.page = page;
+        self.fill_entry(i, number, page);
         true
     }
 
@@ -56,6 +76,17 @@ impl Table {
         if page > 999 {
             return false;
         }
+        if !self.append_label(name, number, page) {
+            return false;
+        }
+        true
+    }
+
+    // Appends a blank entry and fills it.
+    fn append_label(&mut self, name: Name, number: HeadingNumber, page: u16) -> bool
+        requires { ⌜ (1 ≤ page) × (page ≤ 999) ⌝ }
+        ensures { λ r. ⌜ Adds-label r (lists-of (now (self .entry))) (record { name = name-bytes name; position = placed number page }) (lists-of (now (self .exit))) ⌝ }
+    {
         let place = self.labels.len();
         let blank = LabelEntry {
             name,

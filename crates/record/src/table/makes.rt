@@ -45,32 +45,52 @@ impl Table {
         self.contents.clear();
     }
 
+    // The label entries; they are as many as the list has.
+    fn label_entries(&self) -> &[LabelEntry]
+        ensures value { λ r. ⌜ map label-of (now r) ≡ lists-of (now (self .entry)) .labels ⌝ }
+        ensures bound { λ r. ⌜ length (now r) ≤ 128 ⌝ }
+        ensures len { λ r. ⌜ length (now r) ≡ length (lists-of (now (self .entry)) .labels) ⌝ }
+    {
+        self.labels.as_slice()
+    }
+
     pub fn labels(&self) -> &[LabelEntry]
         ensures value { λ r. ⌜ map label-of (now r) ≡ lists-of (now (self .entry)) .labels ⌝ }
         ensures bound { λ r. ⌜ length (now r) ≤ 128 ⌝ }
     {
-        self.labels.as_slice()
+        self.label_entries()
+    }
+
+    // The contents entries; they are as many as the list has.
+    fn contents_entries(&self) -> &[ContentsEntry]
+        ensures value { λ r. ⌜ map position-of (now r) ≡ lists-of (now (self .entry)) .contents ⌝ }
+        ensures bound { λ r. ⌜ length (now r) ≤ 128 ⌝ }
+        ensures len { λ r. ⌜ length (now r) ≡ length (lists-of (now (self .entry)) .contents) ⌝ }
+    {
+        self.contents.as_slice()
     }
 
     pub fn contents(&self) -> &[ContentsEntry]
         ensures value { λ r. ⌜ map position-of (now r) ≡ lists-of (now (self .entry)) .contents ⌝ }
         ensures bound { λ r. ⌜ length (now r) ≤ 128 ⌝ }
     {
-        self.contents.as_slice()
+        self.contents_entries()
     }
 
     pub fn label_count(&self) -> usize
         ensures value { λ r. ⌜ r ≡ length (lists-of (now (self .entry)) .labels) ⌝ }
         ensures bound { λ r. ⌜ r ≤ 128 ⌝ }
     {
-        self.labels.len()
+        let labels = self.label_entries();
+        labels.len()
     }
 
     pub fn contents_count(&self) -> usize
         ensures value { λ r. ⌜ r ≡ length (lists-of (now (self .entry)) .contents) ⌝ }
         ensures bound { λ r. ⌜ r ≤ 128 ⌝ }
     {
-        self.contents.len()
+        let contents = self.contents_entries();
+        contents.len()
     }
 
     // Adds a label entry at the end, and answers whether there was room.

@@ -21,13 +21,26 @@ fn refill<E: Copy>(to: &mut Vec<E>, from: &[E])
 }
 
 impl Table {
+    fn same_labels(&self, other: &Table) -> bool
+        ensures { λ r. ⌜ Decides r (lists-of (now (self .entry)) .labels ≡ lists-of (now (other .entry)) .labels) ⌝ }
+    {
+        equal_lists(self.labels.as_slice(), other.labels.as_slice())
+    }
+
+    fn same_contents(&self, other: &Table) -> bool
+        ensures { λ r. ⌜ Decides r (lists-of (now (self .entry)) .contents ≡ lists-of (now (other .entry)) .contents) ⌝ }
+    {
+        equal_lists(self.contents.as_slice(), other.contents.as_slice())
+    }
+
     // Whether the two hold the same entries in the same order.
     pub fn same(&self, other: &Table) -> bool
         ensures { λ r. ⌜ Decides r (lists-of (now (self .entry)) ≡ lists-of (now (other .entry))) ⌝ }
     {
-        let labels = equal_lists(self.labels.as_slice(), other.labels.as_slice());
-        let contents = equal_lists(self.contents.as_slice(), other.contents.as_slice());
-        labels & contents
+        if !self.same_labels(other) {
+            return false;
+        }
+        self.same_contents(other)
     }
 
     // Makes this table hold what `other` holds.

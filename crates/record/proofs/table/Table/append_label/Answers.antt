@@ -9,7 +9,7 @@ use Rattle.record.specs.Lists.{Lists, lists-of, put-position, with-label}
 use Rattle.record.specs.Meaning.{label-of}
 use Rattle.record.proofs.Filling.{last-filled, changes-on}
 use Rattle.record.proofs.Whole.{lists-same}
-use Rattle.record.proofs.table.Table.put_label.Needs as need
+use Rattle.record.proofs.table.Table.append_label.Needs as need
 
 pub returns : need.returns
 returns c =
@@ -21,10 +21,9 @@ returns c =
     let added = c .if-not-add-label .ensures tt in
     let long : length (before .labels) ≡ n = omega (arith, length-map (v .items) label-of, v .ok .0, c .len-place .ensures) in
     let more = ap (λ (l : Lists). length (l .labels)) (added .1) ∙ length-push (before .labels) blank in
-    let one : 1 ≤ c .args .page = omega (arith, c .if-page-eq0 .left) in
     changes-on _ _ _ _ before _ _ _
-    (omega (arith, more, long), one, c .if-page-gt999 .left)
-    (added .0, one, c .if-page-gt999 .left)
+    (omega (arith, more, long), c .pre .0, c .pre .1)
+    (added .0)
     (ap (λ (l : Lists). put-position l n position) (added .1)
     ∙ ap (λ k. put-position (with-label before blank) k position) (sym long)
     ∙ lists-same _ _ (last-filled (before .labels) blank position) refl)

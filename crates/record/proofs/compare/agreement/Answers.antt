@@ -1,11 +1,11 @@
 use mathlib.Core.Path.{_≡_, sym, subst, _∙_}
 use mathlib.Core.Bool.{true}
-use Prim.Native.Nat.{ℕ, _<_, _≤_}
+use Prim.Native.Nat.{ℕ, _+_, _<_, _≤_}
 use native.Mathlib.Omega.{arith}
 use lib.ListN.{length, take}
 use lib.Seq.{take-all}
 use Rattle.record.proofs.Fronts.{front-more, at-front, end-apart}
-use Rattle.record.proofs.compare.first_difference.Needs as need
+use Rattle.record.proofs.compare.agreement.Needs as need
 
 pub returns-then-not-matches : need.returns-then-not-matches
 returns-then-not-matches g c =
@@ -18,7 +18,14 @@ returns-then-not-matches g c =
     let t : c .matches .result ≡ true = c .matches .ensures .1 equal in
     let f = c .if-not-matches .taken in
     let z : _≡_ {A = ℕ} 0 1 = cc in omega arith in
-    (c .loop-i .inv, λ e. apart (at-front _ _ _ _ _ la lb (c .index-a-i .is) (c .index-b-i .is) e))
+    let differ : take (c .loop-i .i + 1) (c .args .a .now) ≡ take (c .loop-i .i + 1) (c .args .b .now) → ⊥ = λ e. apart (at-front _ _ _ _ _ la lb (c .index-a-i .is) (c .index-b-i .is) e) in
+    record {
+      within = (omega arith, omega arith);
+      front = c .loop-i .inv;
+      whole = λ h _. absurd (omega arith);
+      left = λ _ e. differ e;
+      right = λ _ e. differ e;
+    }
 
 pub loop-i-again : need.loop-i-again
 loop-i-again g c =
@@ -27,20 +34,18 @@ loop-i-again g c =
     let same = g .E·Entry·met .exact _ _ (c .matches .ensures .0 (c .if-not-matches .left)) in
     front-more _ _ _ _ _ la lb (c .index-a-i .is) (c .index-b-i .is) (c .loop-i .inv) same
 
-pub returns-then-a-b : need.returns-then-a-b
-returns-then-a-b g c =
-    let i = c .loop-i .i in
+pub returns : need.returns
+returns g c =
     let a = c .args .a .now in
     let b = c .args .b .now in
-    let la : length a ≤ i = omega arith in
-    let lb : length b ≤ i = omega arith in
-    sym (take-all i a la) ∙ c .loop-i .inv ∙ take-all i b lb
-
-pub returns-else-a-b : need.returns-else-a-b
-returns-else-a-b g c =
-    let a = c .args .a .now in
-    let b = c .args .b .now in
-    let n : c .loop-i .i ≡ c .min-n .result = omega arith in (
-      subst (λ k. take k a ≡ take k b) n (c .loop-i .inv),
-      rw (c .min-n .ensures) (end-apart a b (c .if-a-b .left)),
-    )
+    let n = c .min-n .result in
+    let same : c .loop-i .i ≡ n = omega arith in
+    let front : take n a ≡ take n b = subst (λ k. take k a ≡ take k b) same (c .loop-i .inv) in
+    let apart : (length a ≡ length b → ⊥) → take (n + 1) a ≡ take (n + 1) b → ⊥ = λ h. subst (λ k. take (k + 1) a ≡ take (k + 1) b → ⊥) (sym (c .min-n .ensures)) (end-apart a b h) in
+    record {
+      within = (omega (arith, c .min-n .ensures), omega (arith, c .min-n .ensures));
+      front = front;
+      whole = λ la lb. sym (take-all n a la) ∙ front ∙ take-all n b lb;
+      left = λ h. apart (λ e. omega (arith, c .min-n .ensures));
+      right = λ h. apart (λ e. omega (arith, c .min-n .ensures));
+    }
