@@ -1,4 +1,5 @@
 // Checking a manuscript, and binding one that passes.
+#![tactic(auto)]
 pub use bound::Manuscript;
 pub use bound::binding::bind;
 pub use checking::check;

@@ -1,4 +1,5 @@
 // Worked numerals and record lines, run as tests.
+#![tactic(auto)]
 #[cfg(test)]
 mod lines;
 #[cfg(test)]

@@ -1,4 +1,5 @@
 // Answers request lines on standard input, a line each: the cases of outside models are run by it.
+#![tactic(auto)]
 use answers::answer;
 use std::io::{BufRead, BufReader};
 
