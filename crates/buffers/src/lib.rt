@@ -1,5 +1,6 @@
 // Writing into a lent buffer: the bytes at a place change, and no other.
 #![tactic(auto)]
+
 ghost use Rattle.std.specs.Prelude.{◌≡◌, ◌+◌, ◌≤◌, length};
 ghost use Rattle.buffers.specs.Written.{written, Puts};
 

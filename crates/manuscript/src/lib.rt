@@ -1,5 +1,6 @@
 // Checking a manuscript, and binding one that passes.
 #![tactic(auto)]
+
 pub use bound::Manuscript;
 pub use bound::binding::bind;
 pub use checking::check;

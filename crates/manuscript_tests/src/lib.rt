@@ -1,5 +1,6 @@
 // Examples of the check, run: every refusal with all its fields, and texts just inside and just outside each limit.
 #![tactic(auto)]
+
 #[cfg(test)]
 mod tests {
     use faults::{Cause, Fault, Span};

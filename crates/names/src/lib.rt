@@ -1,5 +1,6 @@
 // The rule of a NAME, once: 1 to 16 letters, digits or hyphens.
 #![tactic(auto)]
+
 ghost use Rattle.std.specs.Prelude.{◌≡◌};
 ghost use Rattle.names.specs.Name.{name_byte, naming};
 

@@ -1,5 +1,6 @@
 // Numerals of pages, in decimal or lower-case roman, and numbers of headings.
 #![tactic(auto)]
+
 pub use counters::Counters;
 pub use heading::HeadingNumber;
 pub use pages::{numeral_laws, page_numeral};

@@ -1,5 +1,6 @@
 // The page record: where labels and headings stand.
 #![tactic(auto)]
+
 pub use compare::{Entry, first_difference};
 pub use entry::{ContentsEntry, LabelEntry};
 pub use name::Name;

@@ -1,5 +1,6 @@
 // Answers request lines on standard input, a line each: the cases of outside models are run by it.
 #![tactic(auto)]
+
 use answers::answer;
 use std::io::{BufRead, BufReader};
 

@@ -1,5 +1,6 @@
 // Classes of bytes, and how far a run of one class goes: every scan of the product is one of these.
 #![tactic(auto)]
+
 ghost use Rattle.std.specs.Prelude.{◌≡◌, ℕ, ◌≤◌, Bool, length};
 ghost use Rattle.std.specs.List.{prefix_len};
 ghost use Rattle.runs.specs.Run.{all};

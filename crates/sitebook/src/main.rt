@@ -1,6 +1,7 @@
 // The program that people use. `sitebook check` reads a manuscript on standard input and prints what it holds; `sitebook settle`
 // makes passes over it until they settle.
 #![tactic(auto)]
+
 use manuscript::check;
 use refusals::refusal;
 use settle::{Tries, settle_on_filler, settle_on_form};

@@ -1,5 +1,6 @@
 // The smallest layout, as an example: a page takes a fixed number of words. It knows no lines, so it pages and does not print.
 #![tactic(auto)]
+
 ghost use Rattle.layout.specs.Runs.{ReadingOrder};
 ghost use Rattle.words_per_page.specs.Counting.{counting, Made};
 ghost use Rattle.words_per_page.specs.Laws.{counting_lawful};
