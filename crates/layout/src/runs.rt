@@ -8,8 +8,8 @@ use crate::layout::{Layout, Printing};
 // The words of an accepted run stand apart and inside the page, on pages that never go back;
 // where a page has lines they strictly ascend in reading order.
 pub fn reading_order<L: Layout>()
-    ensures order { ReadingOrder meaning }
-    ensures within { PrintedOrder meaning }
+    ensures order { ReadingOrder L.meaning }
+    ensures within { PrintedOrder L.meaning }
 {}
 
 // The height and the width of a page.

@@ -8,4 +8,4 @@ returns c =
     let n = length c.args.bytes.now in
     let far : at + ((at + n) - at) ≡ at + n = omega arith in
     let rest = drop-drop ((at + n) - at) at out ∙ ap (λ m. drop m out) far in
-    record { end = refl; after = λ i. take at out ++ (c.copy-from-slice.ensures.after i ++ rest i) }
+    record { end = refl; after = λ i. take at out ++ (c.copy_from_slice.ensures.after i ++ rest i) }
