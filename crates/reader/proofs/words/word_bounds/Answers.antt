@@ -12,16 +12,16 @@ returns-then-at-line c = record { word = at_drop_all (words c.args.at) c.args.li
 pub returns-then-length-eq0 : goal.returns-then-length-eq0
 returns-then-length-eq0 c =
     let l = c.args.line.now in
-    record { word = words_none l c.args.at c.run-length.result (c.run-length.ensures.value ∙ ap (prefix_len space) (take_rest l _)) (ap (prefix_len in_word) (sym (take_rest l _)) ∙ sym c.run-length-length.ensures.value ∙ c.if-length-eq0.true) c.args.at; law = words_law c.args.at _ }
+    record { word = words_none l c.args.at c.run_length.result (c.run_length.ensures.value ∙ ap (prefix_len space) (take_rest l _)) (ap (prefix_len in_word) (sym (take_rest l _)) ∙ sym c.run_length-length.ensures.value ∙ c.if-length-eq0.true) c.args.at; law = words_law c.args.at _ }
 
 pub returns : goal.returns
 returns c =
     let l = c.args.line.now in
     let at = c.args.at in
-    let s = c.run-length.result in
-    let n = c.run-length-length.result in
-    let spaces : s ≡ prefix_len space (drop at l) = c.run-length.ensures.value ∙ ap (prefix_len space) (take_rest l _) in
-    let run : n ≡ prefix_len in_word (drop (at + s) l) = c.run-length-length.ensures.value ∙ ap (prefix_len in_word) (take_rest l _) in
+    let s = c.run_length.result in
+    let n = c.run_length-length.result in
+    let spaces : s ≡ prefix_len space (drop at l) = c.run_length.ensures.value ∙ ap (prefix_len space) (take_rest l _) in
+    let run : n ≡ prefix_len in_word (drop (at + s) l) = c.run_length-length.ensures.value ∙ ap (prefix_len in_word) (take_rest l _) in
     let some : 0 < n = omega arith in
     let cut : n ≡ at + s + n - (at + s) = omega arith in
     let long : length (take (at + s + n - (at + s)) (drop (at + s) l)) ≡ n = ap (λ x. length (take x (drop (at + s) l))) (sym cut) ∙ word_length l at s n spaces run in

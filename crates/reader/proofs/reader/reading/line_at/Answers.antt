@@ -14,8 +14,8 @@ returns c =
     let t = c.args.text.now in
     let i = c.args.place.at in
     let n = c.args.place.lines + 1 in
-    let m = c.run-length.result in
-    let run : m ≡ prefix_len in_line (drop i t) = c.run-length.ensures.value ∙ ap (prefix_len in_line) (take_rest t i) in
+    let m = c.run_length.result in
+    let run : m ≡ prefix_len in_line (drop i t) = c.run_length.ensures.value ∙ ap (prefix_len in_line) (take_rest t i) in
     let inside : i < length t = omega arith in
     let head : SourceLine = record { number = n; offset = i; bytes = take (i + m - i) (drop i t) } in
     let next = c.if-end-text.next in
