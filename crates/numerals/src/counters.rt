@@ -1,6 +1,6 @@
 // The three counters of headings, one for each level.
-ghost use Rattle.std.specs.Prelude.{◌≡◌, Decides, nat_eq};
-ghost use Rattle.std.specs.Ordering.{on, eq_of_both};
+ghost use Rattle.std.specs.Prelude.{◌≡◌, Decides};
+ghost use Rattle.numerals.specs.Sameness.{same_counters};
 ghost use Rattle.std.specs.Cmp.Rules.{comparing};
 ghost use Rattle.std.proofs.Common.{rules};
 
@@ -13,11 +13,14 @@ pub struct Counters {
 
 // Written out, since the derived one says less than that equal counters are equal values.
 impl PartialEq for Counters {
-    ghost eq = { eq_of_both (on (λ v. v.first) nat_eq) (eq_of_both (on (λ v. v.second) nat_eq) (on (λ v. v.third) nat_eq)) };
+    ghost eq = { same_counters };
 
     ghost laws = { Prim.search (comparing, rules) };
 
-    fn eq(&self, other: &Counters) -> bool {
+    fn eq(&self, other: &Counters) -> bool
+        ensures value { result ≡ same_counters self.now other.now }
+        ensures decides { Decides result (self.now ≡ other.now) }
+    {
         self.first == other.first && self.second == other.second && self.third == other.third
     }
 }

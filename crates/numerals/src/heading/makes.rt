@@ -3,7 +3,8 @@ ghost use Rattle.std.specs.Prelude.{◌≡◌, Decides};
 ghost use Rattle.numerals.specs.Heading.{Numbers};
 ghost use Rattle.numerals.specs.Sound.{number_ok};
 ghost use Rattle.std.specs.Cmp.Rules.{comparing};
-ghost use Rattle.std.proofs.Common.{rules, arith};
+ghost use Rattle.std.proofs.Common.{rules};
+ghost use Rattle.numerals.specs.Sameness.{same_number};
 
 use super::HeadingNumber;
 use crate::counters::Counters;
@@ -51,11 +52,14 @@ impl HeadingNumber {
 }
 
 impl PartialEq for HeadingNumber {
-    ghost equals = { λ x y r. Decides r (x ≡ y) };
+    ghost eq = { same_number };
 
-    ghost laws = { first_of (Prim.search (comparing, rules), Prim.grind (arith, Self.row.coded.inj)) };
+    ghost laws = { Prim.search (comparing, rules) };
 
-    fn eq(&self, other: &HeadingNumber) -> bool {
+    fn eq(&self, other: &HeadingNumber) -> bool
+        ensures value { result ≡ same_number self.now other.now }
+        ensures decides { Decides result (self.now ≡ other.now) }
+    {
         self.level == other.level && self.counters == other.counters
     }
 }

@@ -5,5 +5,5 @@ use Rattle.manuscript.proofs.references.meet_text.Goals as goal
 pub loop-line-preserved : goal.loop-line-preserved
 loop-line-preserved c = search (rules, dangling_append)
 
-pub returns-in-err-meet-line : goal.returns-in-err-meet-line
-returns-in-err-meet-line c = search (rules, dangling_append)
+pub returns-in_err-meet_line : goal.returns-in_err-meet_line
+returns-in_err-meet_line c = search (rules, dangling_append)

@@ -12,7 +12,7 @@ returns-in-123 c =
     let brace : get_or rest 0 0 ≡ 123 = omega (arith, ltb-false) in
     let colon : get_or rest 2 0 ≡ 58 = omega (arith, ltb-false) in
     let same =
-    c.marked-parts.ensures.value
-    ∙ ap (λ m. marked c.args.title m pre (between 3 (length rest) rest)) c.mark-of.ensures
+    c.marked_parts.ensures.value
+    ∙ ap (λ m. marked c.args.title m pre (between 3 (length rest) rest)) c.mark_of.ensures
     ∙ sym (opening c.args.title pre rest long brace colon) in
-    record { value = same; around = c.marked-parts.ensures.around }
+    record { value = same; around = c.marked_parts.ensures.around }

@@ -8,5 +8,5 @@ use Rattle.marks.proofs.parse.parse_word.Goals as goal
 pub returns : goal.returns
 returns c =
     let w = c.args.word.now in
-    let value : told c.opened-parts.result ≡ parts c.args.title w = search rules in
-    record { value = value; around = c.opened-parts.ensures.around; joined = subst (Whole w) (sym value) (whole c.args.title w) }
+    let value : told c.opened_parts.result ≡ parts c.args.title w = search rules in
+    record { value = value; around = c.opened_parts.ensures.around; joined = subst (Whole w) (sym value) (whole c.args.title w) }

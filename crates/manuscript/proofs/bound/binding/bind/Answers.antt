@@ -3,7 +3,7 @@ use Rattle.manuscript.specs.Checking.{checked}
 use Rattle.manuscript.proofs.Labelling.{labelled}
 use Rattle.manuscript.proofs.bound.binding.bind.Goals as goal
 
-pub invariant-of-result : goal.invariant-of-result
-invariant-of-result c =
-    let ok : is_ok (checked c.args.bytes.now) ≡ true = ap is_ok (sym c.check.ensures.value) ∙ sym c.if-is-ok.ensures.value in
+pub invariant_of-result : goal.invariant_of-result
+invariant_of-result c =
+    let ok : is_ok (checked c.args.bytes.now) ≡ true = ap is_ok (sym c.check.ensures.value) ∙ sym c.if-is_ok.ensures.value in
     (ok, (labelled c.args.bytes.now ok, tt))

@@ -4,13 +4,13 @@ use Rattle.manuscript.specs.Standing.{among}
 use Rattle.manuscript.proofs.Tables.{firsts, length_firsts, among_more}
 use Rattle.manuscript.proofs.labels.Labels.contains.Goals as goal
 
-pub returns-then-same-bytes : goal.returns-then-same-bytes
-returns-then-same-bytes c =
+pub returns-then-same_bytes : goal.returns-then-same_bytes
+returns-then-same_bytes c =
     let rs = c.args.self.now.names in
     let n = c.args.self.now.count in
     let name = c.args.name.now in
     let i = c.loop-i.i in
-    ap (λ b. b || among name (drop (i + 1) (firsts rs n))) c.if-same-bytes.ensures ∙ sym (among_more rs n i _ name (omega arith) (omega arith)) ∙ c.loop-i.invariant
+    ap (λ b. b || among name (drop (i + 1) (firsts rs n))) c.if-same_bytes.ensures ∙ sym (among_more rs n i _ name (omega arith) (omega arith)) ∙ c.loop-i.invariant
 
 pub loop-i-preserved : goal.loop-i-preserved
 loop-i-preserved c =
@@ -18,7 +18,7 @@ loop-i-preserved c =
     let n = c.args.self.now.count in
     let name = c.args.name.now in
     let i = c.loop-i.i in
-    ap (λ b. b || among name (drop (i + 1) (firsts rs n))) c.if-same-bytes.ensures ∙ sym (among_more rs n i _ name (omega arith) (omega arith)) ∙ c.loop-i.invariant
+    ap (λ b. b || among name (drop (i + 1) (firsts rs n))) c.if-same_bytes.ensures ∙ sym (among_more rs n i _ name (omega arith) (omega arith)) ∙ c.loop-i.invariant
 
 pub returns : goal.returns
 returns c =
