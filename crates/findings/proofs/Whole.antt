@@ -1,7 +1,7 @@
 -- Where acts fit, the guards of the keeper never act.
 use Rattle.std.proofs.Common.{◌≡◌, ℕ, ◌+◌, ◌-◌, ◌^◌, ◌<◌, ◌≤◌, min, List, [], ◌∷◌, ◌++◌, length, Ok, Err, Result, sym, refl, ap, ◌∙◌, subst, append_assoc, append-nil, arith, length-append}
 use Rattle.std.specs.List.{AllByRecursion as All}
-use Rattle.std.proofs.lemmas.List.{length_map, length_push}
+use Rattle.std.proofs.lemmas.List.{length-map, length_push}
 use Rattle.std.proofs.lemmas.Bool.{lt-ltb, le-leb, and_from, cond-true}
 use Rattle.compose.specs.Acts.{Number, Part, plain, label, heading, page_reference, number_reference, contents, Act, set_word, end_of_paragraph, end_of_page}
 use Rattle.compose.specs.Playing.{Play, played, ended}
@@ -103,7 +103,7 @@ fitting_front ws rest ps e r n =
     let P : List Part → Type 0 = λ l. Room no_entries l in
     record {
       room = room_front no_entries (parts_of ws) rest (subst P (sym e) r);
-      few = omega (arith, n, ap length e, length-append (parts_of ws) rest, length_map ws (λ (w : SetWord). w.part));
+      few = omega (arith, n, ap length e, length-append (parts_of ws) rest, length-map ws (λ (w : SetWord). w.part));
     }
 
 fitting : {P : Type 0} (v : Trace P) (ps : List Part) → HasParts v ps → Room no_entries ps → length ps < 2 ^ 64 → Fitting (words_of v)

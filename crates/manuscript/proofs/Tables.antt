@@ -1,6 +1,6 @@
 -- The names in a label table.
 use Rattle.std.proofs.Common.{◌≡◌, ℕ, ◌+◌, ◌<◌, ◌≤◌, Bool, true, false, ◌||◌, List, [], ◌∷◌, map, length, get_or, take, drop, sym, refl, ap, ◌∙◌, subst, arith, length-take-le, Bor}
-use lib.ListN.{length_map}
+use lib.ListN.{length-map}
 use Rattle.std.specs.Str.{bytes_eq}
 use Rattle.std.proofs.lemmas.List.{at_drop_more, get_or-map, get_or-take}
 use Rattle.manuscript.specs.Standing.{among}
@@ -10,7 +10,7 @@ abbrev pub firsts : List (Bor (List ℕ)) → ℕ → List (List ℕ)
 firsts rs n = map (λ r. r.now) (take n rs)
 
 pub length_firsts : (rs : List (Bor (List ℕ))) (n : ℕ) → n ≤ length rs → length (firsts rs n) ≡ n
-length_firsts rs n h = length_map (take n rs) (λ r. r.now) ∙ length-take-le n rs h
+length_firsts rs n h = length-map (take n rs) (λ r. r.now) ∙ length-take-le n rs h
 
 -- one more name looked at
 pub among_more : (rs : List (Bor (List ℕ))) (n i : ℕ) (d : Bor (List ℕ)) (name : List ℕ) → n ≤ length rs → i < n → among name (drop i (firsts rs n)) ≡ (bytes_eq (get_or rs i d).now name || among name (drop (i + 1) (firsts rs n)))

@@ -1,7 +1,7 @@
 -- What the types of entries and tables say of their plain values.
 use Rattle.std.proofs.Common.{◌≡◌, ◌≤◌, true, List, [], ◌∷◌, map, length, arith}
 use Rattle.std.specs.List.{AllByRecursion as All}
-use Rattle.std.proofs.lemmas.List.{length_map}
+use Rattle.std.proofs.lemmas.List.{length-map}
 use Rattle.std.proofs.lemmas.Bool.{and_from, le-leb}
 use Rattle.record.specs.Positions.{label_ok, heading_ok}
 use Rattle.record.specs.Lists.{lists_of}
@@ -25,7 +25,7 @@ contents_ok [] = tt
 contents_ok (e ∷ es) = (contents_entry_ok e, contents_ok es)
 
 pub few_labels : (t : Table) → length (lists_of t).labels ≤ 128
-few_labels t = omega (arith, length_map t.labels.items label_of, t.labels.ok.0, t.few)
+few_labels t = omega (arith, length-map t.labels.items label_of, t.labels.ok.0, t.few)
 
 pub few_contents : (t : Table) → length (lists_of t).contents ≤ 128
-few_contents t = omega (arith, length_map t.contents.items position_of, t.contents.ok.0, t.few)
+few_contents t = omega (arith, length-map t.contents.items position_of, t.contents.ok.0, t.few)

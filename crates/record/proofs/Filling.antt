@@ -1,6 +1,6 @@
 -- What filling one entry leaves of the list.
 use Rattle.std.proofs.Common.{◌≡◌, ℕ, zero, suc, ◌<◌, ◌≤◌, Bool, true, false, List, [], ◌∷◌, ◌++◌, map, length, get_or, set, MatchBool, refl, ap, ◌∙◌, arith}
-use Rattle.std.proofs.lemmas.List.{length_map, map_push}
+use Rattle.std.proofs.lemmas.List.{length-map, map_push}
 use Rattle.record.specs.Naming.{name_bytes}
 use Rattle.record.specs.Positions.{Position, Label}
 use Rattle.record.specs.Labels.{with_position}
@@ -30,8 +30,8 @@ changes_on false P Q more before after now goal p q e h = absurd (h.0 p)
 -- an entry pushed within a list of n, said of the plain values
 module _ {X Y : Type 0} (f : X → Y) (xs ys : List X) (x : X) (n : ℕ) (long : n ≡ length xs) where
   pub pushed_values : (r : Bool) → MatchBool r ((n < 128) × (ys ≡ xs ++ (x ∷ []))) ((128 ≤ n) × (ys ≡ xs)) → MatchBool r ((length (map f xs) < 128) × (map f ys ≡ map f xs ++ (f x ∷ []))) ((length (map f xs) < 128 → ⊥) × (map f ys ≡ map f xs))
-  pushed_values true h = let m = length_map xs f in (omega (arith, h.0), ap (map f) h.1 ∙ map_push f xs x)
-  pushed_values false h = let m = length_map xs f in (λ l. omega (arith, h.0), ap (map f) h.1)
+  pushed_values true h = let m = length-map xs f in (omega (arith, h.0), ap (map f) h.1 ∙ map_push f xs x)
+  pushed_values false h = let m = length-map xs f in (λ l. omega (arith, h.0), ap (map f) h.1)
 
 pub pushed_label : (r : Bool) (ls : Lists) (l : Label) (more : List Label) → MatchBool r ((length ls.labels < 128) × (more ≡ ls.labels ++ (l ∷ []))) ((length ls.labels < 128 → ⊥) × (more ≡ ls.labels)) → AddsLabel r ls l (record { labels = more; contents = ls.contents })
 pushed_label true ls l more h = (h.0, lists_same _ _ h.1 refl)

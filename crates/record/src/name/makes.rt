@@ -2,8 +2,9 @@
 ghost use Rattle.std.specs.Prelude.{◌≡◌, true, Decides};
 ghost use Rattle.record.specs.Naming.{Named, name_bytes};
 ghost use Rattle.record.specs.Right.{name_ok};
+ghost use Rattle.record.specs.Sameness.{same_name};
 ghost use Rattle.std.specs.Cmp.Rules.{comparing};
-ghost use Rattle.std.proofs.Common.{rules, arith};
+ghost use Rattle.std.proofs.Common.{rules};
 
 use super::Name;
 use buffers::write;
@@ -51,11 +52,14 @@ impl Name {
 }
 
 impl PartialEq for Name {
-    ghost equals = { λ x y r. Decides r (x ≡ y) };
+    ghost eq = { same_name };
 
-    ghost laws = { first_of (Prim.search (comparing, rules), Prim.grind (arith, Self.row.coded.inj)) };
+    ghost laws = { Prim.search (comparing, rules) };
 
-    fn eq(&self, other: &Name) -> bool {
+    fn eq(&self, other: &Name) -> bool
+        ensures value { result ≡ same_name self.now other.now }
+        ensures decides { Decides result (self.now ≡ other.now) }
+    {
         self.len == other.len && self.bytes == other.bytes
     }
 }

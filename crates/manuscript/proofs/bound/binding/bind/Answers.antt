@@ -6,4 +6,4 @@ use Rattle.manuscript.proofs.bound.binding.bind.Goals as goal
 pub invariant_of-result : goal.invariant_of-result
 invariant_of-result c =
     let ok : is_ok (checked c.args.bytes.now) ≡ true = ap is_ok (sym c.check.ensures.value) ∙ sym c.if-is_ok.ensures.value in
-    (ok, (labelled c.args.bytes.now ok, tt))
+    record { accepted = ok; labelled = labelled c.args.bytes.now ok }

@@ -5,5 +5,5 @@ use Rattle.record.proofs.name.makes.is_name.Goals as goal
 pub returns-in-Right : goal.returns-in-Right
 returns-in-Right c = sym (right_ok c.args.text.now c.in-Right.ensures)
 
-pub returns-in-default : goal.returns-in-default
-returns-in-default c = sym (wrong_ok _ _ c.named.ensures c.in-default.not-Right)
+pub returns-in_default : goal.returns-in_default
+returns-in_default c = sym (wrong_ok _ _ c.named.ensures c.in_default.not-Right)

@@ -7,4 +7,4 @@ pub returns : goal.returns
 returns c =
     let v = c.args.self.now.labels in
     pushed_label _ (lists_of c.args.self.now) (label_of c.args.entry) _
-    (pushed_values label_of v.items _ c.args.entry v.len v.ok.0 _ c.push-within.ensures.items)
+    (pushed_values label_of v.items _ c.args.entry v.len v.ok.0 _ c.push_within.ensures.items)

@@ -1,5 +1,5 @@
 use Rattle.std.proofs.Common.{◌<◌, ◌≤◌, length, get_or, sym, ◌∙◌, arith, rules}
-use Rattle.std.proofs.lemmas.List.{get_or_default, length_map}
+use Rattle.std.proofs.lemmas.List.{get_or_default, length-map}
 use Rattle.record.specs.Meaning.{label_of}
 use Rattle.record.proofs.Places.{name_test, later_none, found_here, not_here, nowhere}
 use Rattle.record.proofs.table.finds.place_in.Goals as goal
@@ -14,8 +14,8 @@ returns-then-eq c =
     let within : i < length es = search rules in
     let x = get_or es i c.index-entries-i.result in
     let is = get_or_default es i c.index-entries-i.result x within in
-    let test = name_test x.name c.args.name.now _ c.eq.ensures ∙ c.if-eq.true in
-    record { value = sym (found_here es _ i x within is test) ∙ c.loop-i.invariant; bound = omega (arith, length_map es label_of) }
+    let test = name_test x.name c.args.name.now _ c.eq.ensures.decides ∙ c.if-eq.true in
+    record { value = sym (found_here es _ i x within is test) ∙ c.loop-i.invariant; bound = omega (arith, length-map es label_of) }
 
 pub loop-i-preserved : goal.loop-i-preserved
 loop-i-preserved c =
@@ -24,7 +24,7 @@ loop-i-preserved c =
     let within : i < length es = search rules in
     let x = get_or es i c.index-entries-i.result in
     let is = get_or_default es i c.index-entries-i.result x within in
-    let test = name_test x.name c.args.name.now _ c.eq.ensures ∙ c.if-eq.false in
+    let test = name_test x.name c.args.name.now _ c.eq.ensures.decides ∙ c.if-eq.false in
     not_here es _ i x within is test ∙ c.loop-i.invariant
 
 pub returns : goal.returns
