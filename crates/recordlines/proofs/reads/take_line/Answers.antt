@@ -5,9 +5,9 @@ use Rattle.recordlines.specs.Step.{Step, step, line_step, frame_step}
 use Rattle.recordlines.specs.Raw.{Does}
 use Rattle.recordlines.proofs.reads.take_line.Goals as goal
 
-pub returns-in-default : goal.returns-in-default
+pub returns-in_default : goal.returns-in_default
 unfolding line_step
-returns-in-default c = (ap (frame_step (record_lists c.args.entries.now)) c.in-default.ensures, refl)
+returns-in_default c = (ap (frame_step (record_lists c.args.entries.now)) c.in_default.ensures, refl)
 
 pub returns : goal.returns
 unfolding line_step
@@ -15,6 +15,6 @@ returns c =
     let ls = record_lists c.args.entries.now in
     let d = c.in-Some.ensures.0 in
     let n = c.in-Some.n in
-    subst (λ (s : Step). Does s c.take-frame.result ls (record_lists c.take-frame.new.entries))
+    subst (λ (s : Step). Does s c.take_frame.result ls (record_lists c.take_frame.new.entries))
     (ap (λ l. step ls l) (ap (λ k. take k c.decode.new.out) (sub-zero n)) ∙ ap (frame_step ls) (sym d))
-    c.take-frame.ensures
+    c.take_frame.ensures

@@ -10,6 +10,6 @@ returns c =
     let l = ap length (labels_text ls label_of c.labels.result.now c.labels.ensures.value) in
     let k = ap length (contents_text ls position_of c.contents.result.now c.contents.ensures.value) in
     record {
-      value = omega (arith, l, k, lines_length_lem ls, c.lines-length.ensures.value, c.lines-length-2.ensures.value);
-      bound = omega (arith, c.lines-length.ensures.bound, c.lines-length-2.ensures.bound);
+      value = omega (arith, l, k, lines_length_lem ls, c.lines_length.ensures.value, c.lines_length-2.ensures.value);
+      bound = omega (arith, c.lines_length.ensures.bound, c.lines_length-2.ensures.bound);
     }

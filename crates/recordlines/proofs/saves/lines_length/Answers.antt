@@ -10,7 +10,7 @@ loop-i-preserved g c =
     let e = at_element f c.args.entries.now c.loop-i.i x c.loop-i-test.true c.index-entries-i.is in
     let n = length_line (g.E.Framed.frame x) in
     let sum = ap length e ∙ length-append (f x) _ in
-    (omega (arith, c.loop-i.invariant.0, sum, n, c.frame-length.ensures.value), omega (arith, c.loop-i.invariant.1, c.frame-length.ensures.bound))
+    (omega (arith, c.loop-i.invariant.0, sum, n, c.frame_length.ensures.value), omega (arith, c.loop-i.invariant.1, c.frame_length.ensures.bound))
 
 pub returns : goal.returns
 returns g c =

@@ -5,12 +5,12 @@ use Rattle.recordlines.specs.Frame.{line}
 use Rattle.recordlines.proofs.Joining.{at_element, at_end, wrote_part}
 use Rattle.recordlines.proofs.saves.write_lines.Goals as goal
 
-pub write-line-end-requires : goal.write-line-end-requires
-write-line-end-requires g c =
+pub write_line-end-requires : goal.write_line-end-requires
+write_line-end-requires g c =
     let x = c.index-entries-i.result in
     let f : g.row.E.Denot → List ℕ = λ e. line (g.E.Framed.frame e) in
     let e = at_element f c.args.entries.now c.loop-i.i x c.loop-i-test.true c.index-entries-i.is in
-    let frame = front_is _ (g.E.Framed.frame x) c.write-frame-n.ensures.end c.write-frame-n.ensures.after in
+    let frame = front_is _ (g.E.Framed.frame x) c.write_frame-n.ensures.end c.write_frame-n.ensures.after in
     omega (arith, c.loop-i.invariant.1, c.loop-i.invariant.2, c.requires, ap length e ∙ length-append (f x) _, ap (λ l. length (line l)) frame)
 
 pub loop-i-preserved : goal.loop-i-preserved
@@ -18,9 +18,9 @@ loop-i-preserved g c =
     let x = c.index-entries-i.result in
     let f : g.row.E.Denot → List ℕ = λ e. line (g.E.Framed.frame e) in
     let e = at_element f c.args.entries.now c.loop-i.i x c.loop-i-test.true c.index-entries-i.is in
-    let frame = front_is _ (g.E.Framed.frame x) c.write-frame-n.ensures.end c.write-frame-n.ensures.after in
-    let end = c.write-line-end.ensures.end ∙ ap (λ l. c.loop-i.end + length (line l)) frame in
-    let after = c.write-line-end.ensures.after ∙ ap (λ l. written c.loop-i.out c.loop-i.end (line l)) frame in
+    let frame = front_is _ (g.E.Framed.frame x) c.write_frame-n.ensures.end c.write_frame-n.ensures.after in
+    let end = c.write_line-end.ensures.end ∙ ap (λ l. c.loop-i.end + length (line l)) frame in
+    let after = c.write_line-end.ensures.after ∙ ap (λ l. written c.loop-i.out c.loop-i.end (line l)) frame in
     let w = wrote_part c.loop-i.out c.loop-i.end (f x) _ _ e (omega (arith, c.loop-i.invariant.1, c.loop-i.invariant.2, c.requires)) end after in
     (w.0 ∙ c.loop-i.invariant.0, w.1 ∙ c.loop-i.invariant.1, w.2 ∙ c.loop-i.invariant.2)
 

@@ -9,7 +9,7 @@ returns-in-76 c =
     let f = c.args.frame.now in
     let two : 2 ≤ length f = omega (arith, ltb-false) in
     let first : get_or f 0 0 ≡ 76 = search rules in
-    label_told ls c.take-label.result ls (record_lists c.take-label.new.entries) f two first c.take-label.ensures
+    label_told ls c.take_label.result ls (record_lists c.take_label.new.entries) f two first c.take_label.ensures
 
 pub returns-in-67 : goal.returns-in-67
 returns-in-67 c =
@@ -17,4 +17,4 @@ returns-in-67 c =
     let f = c.args.frame.now in
     let one : 1 ≤ length f = omega (arith, ltb-false) in
     let first : get_or f 0 0 ≡ 67 = search rules in
-    contents_told ls c.take-contents.result ls (record_lists c.take-contents.new.entries) f one first c.take-contents.ensures
+    contents_told ls c.take_contents.result ls (record_lists c.take_contents.new.entries) f one first c.take_contents.ensures

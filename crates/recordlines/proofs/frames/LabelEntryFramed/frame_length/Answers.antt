@@ -8,6 +8,6 @@ use Rattle.recordlines.proofs.frames.LabelEntryFramed.frame_length.Goals as goal
 pub returns : goal.returns
 returns c =
     let e = c.args.self.now in
-    let n = ap length c.as-bytes.ensures in
+    let n = ap length c.as_bytes.ensures in
     let long = length-append (name_bytes e.name) (position_bytes_lem (label_of e).position) in
     record { value = omega (arith, n, long); bound = omega (arith, n, (name_length (name_bytes e.name) e.name.right).1) }
