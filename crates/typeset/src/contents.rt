@@ -42,7 +42,7 @@ fn copy_title<C: Compositor>(
 ) -> Result<(), Fault>
     requires in_bounds { 72 ≤ length buffer.old }
     requires bytes_bound { heading.offset + length heading.bytes.now ≤ 60000 }
-    ensures { Plays playing compositor.old (word_acts (telling_shown telling.entry) (in_contents asked) (title_words (line_of heading.entry))) compositor.new result }
+    ensures { Plays C.playing compositor.old (word_acts (telling_shown telling.entry) (in_contents asked) (title_words (line_of heading.entry))) compositor.new result }
 {
     set_words(
         true,
@@ -65,7 +65,7 @@ fn set_entry<C: Compositor>(
 ) -> Result<(), Fault>
     requires in_bounds { 72 ≤ length buffer.old }
     requires bytes_bound { heading.offset + length heading.bytes.now ≤ 60000 }
-    ensures { Plays playing compositor.old (entry_acts (telling_shown telling.entry) asked (title_words (line_of heading.entry)) (contents_line telling.entry.style (position_of entry))) compositor.new result }
+    ensures { Plays C.playing compositor.old (entry_acts (telling_shown telling.entry) asked (title_words (line_of heading.entry)) (contents_line telling.entry.style (position_of entry))) compositor.new result }
 {
     let source = at_line(asked);
     set_number(
@@ -100,7 +100,7 @@ fn set_entries<C: Compositor>(
 ) -> Result<(), Fault>
     requires in_bounds { 72 ≤ length buffer.old }
     requires text_len_bound { length text.now ≤ 60000 }
-    ensures { Plays playing compositor.old (contents_acts (telling_shown telling.entry) asked (titles (items text.now)) (entry_lines telling.entry.style entries.now)) compositor.new result }
+    ensures { Plays C.playing compositor.old (contents_acts (telling_shown telling.entry) asked (titles (items text.now)) (entry_lines telling.entry.style entries.now)) compositor.new result }
 {
     let mut reader = Reader::new(text);
     for entry in entries {
@@ -122,7 +122,7 @@ pub fn set_contents<C: Compositor>(
 ) -> Result<(), Fault>
     requires in_bounds { 72 ≤ length buffer.old }
     requires text_len_bound { length text.now ≤ 60000 }
-    ensures { Plays playing compositor.old (contents_acts (telling_shown telling.entry) asked (titles (items text.now)) (telling_shown telling.entry).contents) compositor.new result }
+    ensures { Plays C.playing compositor.old (contents_acts (telling_shown telling.entry) asked (titles (items text.now)) (telling_shown telling.entry).contents) compositor.new result }
 {
     set_entries(
         text,

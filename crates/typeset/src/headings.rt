@@ -85,7 +85,7 @@ fn set_title<C: Compositor>(
 ) -> Result<(), Fault>
     requires in_bounds { 72 ≤ length buffer.old }
     requires bytes_bound { line.offset + length line.bytes.now ≤ 60000 }
-    ensures { Plays playing compositor.old (title_acts (telling_shown telling.entry) (number_of number) line.entry.number (title_words (line_of line.entry))) compositor.new result }
+    ensures { Plays C.playing compositor.old (title_acts (telling_shown telling.entry) (number_of number) line.entry.number (title_words (line_of line.entry))) compositor.new result }
 {
     let source = at_line(line.number);
     set_number(
@@ -118,7 +118,7 @@ pub fn set_heading<C: Compositor>(
 ) -> Result<(), Fault>
     requires in_bounds { 72 ≤ length buffer.old }
     requires bytes_bound { line.offset + length line.bytes.now ≤ 60000 }
-    ensures { Plays playing compositor.old (end_of_paragraph ∷ title_acts (telling_shown telling.entry) (number_of number) line.entry.number (title_words (line_of line.entry))) compositor.new result }
+    ensures { Plays C.playing compositor.old (end_of_paragraph ∷ title_acts (telling_shown telling.entry) (number_of number) line.entry.number (title_words (line_of line.entry))) compositor.new result }
 {
     compositor.end_paragraph();
     set_title(line, number, telling, buffer, compositor)

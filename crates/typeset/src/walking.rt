@@ -35,7 +35,7 @@ fn set_text<C: Compositor>(
 ) -> Result<(), Fault>
     requires in_bounds { 72 ≤ length buffer.old }
     requires bytes_bound { line.offset + length line.bytes.now ≤ 60000 }
-    ensures { Plays playing compositor.old (text_acts (telling_shown telling.entry) (number_of number) (item_words false (line_of line.entry) (line_words line.entry.bytes.now))) compositor.new result }
+    ensures { Plays C.playing compositor.old (text_acts (telling_shown telling.entry) (number_of number) (item_words false (line_of line.entry) (line_words line.entry.bytes.now))) compositor.new result }
 {
     if next_word(line.bytes, prose_start(line.bytes)).is_none() {
         compositor.end_paragraph();
@@ -62,7 +62,7 @@ fn obey<C: Compositor>(
 ) -> Result<(), Fault>
     requires in_bounds { 72 ≤ length buffer.old }
     requires text_len_bound { length text.now ≤ 60000 }
-    ensures { Plays playing compositor.old (item_acts (telling_shown telling.entry) (titles (items text.now)) (number_of number) (item_of Directive (line_of line.entry))) compositor.new result }
+    ensures { Plays C.playing compositor.old (item_acts (telling_shown telling.entry) (titles (items text.now)) (number_of number) (item_of Directive (line_of line.entry))) compositor.new result }
 {
     if same_bytes(line.bytes, b"!contents") {
         compositor.end_paragraph();
@@ -87,7 +87,7 @@ fn ask_line<C: Compositor>(
     requires in_bounds { 72 ≤ length buffer.old }
     requires text_len_bound { length text.now ≤ 60000 }
     requires bytes_bound { line.offset + length line.bytes.now ≤ 60000 }
-    ensures { Plays playing compositor.old (item_acts (telling_shown telling.entry) (titles (items text.now)) (number_of number) (line_item (line_of line.entry))) compositor.new result }
+    ensures { Plays C.playing compositor.old (item_acts (telling_shown telling.entry) (titles (items text.now)) (number_of number) (line_item (line_of line.entry))) compositor.new result }
 {
     match kind_of(line.bytes) {
         Kind::Heading => set_heading(line, number, telling, buffer, compositor),
@@ -112,7 +112,7 @@ fn walk_line<C: Compositor>(
     requires line_value { line_kept (line_of line) ≡ true }
     requires room { Room number.counters (if is_title line.bytes.now then 1 else 0) }
     ensures number { IfOk result (λ k. number_of k ≡ number_after_lem (number_of number) (line_item (line_of line.entry))) }
-    ensures plays { Plays playing compositor.old (item_acts (telling_shown telling.entry) (titles (items text.now)) (number_after_lem (number_of number) (line_item (line_of line.entry))) (line_item (line_of line.entry))) compositor.new (answered result) }
+    ensures plays { Plays C.playing compositor.old (item_acts (telling_shown telling.entry) (titles (items text.now)) (number_after_lem (number_of number) (line_item (line_of line.entry))) (line_item (line_of line.entry))) compositor.new (answered result) }
 {
     let own = number_after(line, number);
     ask_line(text, line, own, telling, buffer, compositor)?;
@@ -128,7 +128,7 @@ fn walk_lines<C: Compositor>(
 ) -> Result<(), Fault>
     requires in_bounds { 72 ≤ length buffer.old }
     requires kept { Kept text.now }
-    ensures { Plays playing compositor.old (script telling.entry.style (lists_of telling.entry.old.now) (items text.now)) compositor.new result }
+    ensures { Plays C.playing compositor.old (script telling.entry.style (lists_of telling.entry.old.now) (items text.now)) compositor.new result }
 {
     let mut reader = Reader::new(text);
     let mut number = HeadingNumber::before_any();
@@ -153,7 +153,7 @@ pub fn walk<C: Compositor>(
     numerals: &mut NumeralBuffer,
     compositor: &mut C,
 ) -> Result<(), Fault>
-    ensures { Plays playing compositor.old (script telling.entry.style (lists_of telling.entry.old.now) (items manuscript.entry.text.now)) compositor.new result }
+    ensures { Plays C.playing compositor.old (script telling.entry.style (lists_of telling.entry.old.now) (items manuscript.entry.text.now)) compositor.new result }
 {
     let text = kept_text(manuscript);
     walk_lines(text, telling, &mut numerals.bytes, compositor)

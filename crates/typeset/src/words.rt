@@ -37,7 +37,7 @@ pub fn set_number<C: Compositor>(
     compositor: &mut C,
 ) -> Result<(), Fault>
     requires { 72 ≤ length buffer.old }
-    ensures { Plays playing compositor.old (set_word (number_text number.level number.counters) (part_of role) source ∷ []) compositor.new result }
+    ensures { Plays C.playing compositor.old (set_word (number_text number.level number.counters) (part_of role) source ∷ []) compositor.new result }
 {
     let end = build_number(number, buffer);
     compositor.word(text_of(line, buffer, Some(end)), role, source)
@@ -54,7 +54,7 @@ pub fn set_page<C: Compositor>(
 ) -> Result<(), Fault>
     requires le_page { (1 ≤ page) × (page ≤ 999) }
     requires in_bounds { 72 ≤ length buffer.old }
-    ensures { Plays playing compositor.old (set_word (numeral style page) contents source ∷ []) compositor.new result }
+    ensures { Plays C.playing compositor.old (set_word (numeral style page) contents source ∷ []) compositor.new result }
 {
     let end = build_page(style, page, buffer);
     compositor.word(text_of(line, buffer, Some(end)), Role::Contents, source)
@@ -79,7 +79,7 @@ fn set_plain<C: Compositor>(
     buffer: &[u8],
     compositor: &mut C,
 ) -> Result<(), Fault>
-    ensures { Plays playing compositor.old (set_word word.entry.bytes.now (part_in (manner_of manner) None) (source_in (manner_of manner) (at_line_lem line.entry.number)) ∷ []) compositor.new result }
+    ensures { Plays C.playing compositor.old (set_word word.entry.bytes.now (part_in (manner_of manner) None) (source_in (manner_of manner) (at_line_lem line.entry.number)) ∷ []) compositor.new result }
 {
     let source = source_in(manner, at_line(line.number));
     compositor.word(
@@ -103,7 +103,7 @@ fn set_marked<C: Compositor>(
     requires offset_bound { line.offset + word.offset ≤ 60000 }
     requires suffix_len_bound { length marked.prefix.now + length marked.suffix.now ≤ 60 }
     requires name_value { naming marked.name.now ≡ Right }
-    ensures { Plays playing compositor.old (word_act (telling_shown telling.entry) (manner_of manner) (word_with (line_of line.entry) (word_of word.entry) (Some (value_of marked.entry))) ∷ []) compositor.new result }
+    ensures { Plays C.playing compositor.old (word_act (telling_shown telling.entry) (manner_of manner) (word_with (line_of line.entry) (word_of word.entry) (Some (value_of marked.entry))) ∷ []) compositor.new result }
 {
     let name = mark_name(marked.name);
     let end = build_word(telling, marked, &name, buffer);
@@ -131,7 +131,7 @@ fn set_word<C: Compositor>(
 ) -> Result<(), Fault>
     requires in_bounds { 72 ≤ length buffer.old }
     requires offset_bound { line.offset + word.offset ≤ 60000 }
-    ensures { Plays playing compositor.old (word_act (telling_shown telling.entry) (manner_of manner) (item_word title (line_of line.entry) (word_of word.entry)) ∷ []) compositor.new result }
+    ensures { Plays C.playing compositor.old (word_act (telling_shown telling.entry) (manner_of manner) (item_word title (line_of line.entry) (word_of word.entry)) ∷ []) compositor.new result }
 {
     match parse_word(title, word.bytes) {
         Ok(Some(marked)) => set_marked(line, word, marked, manner, telling, buffer, compositor),
@@ -151,7 +151,7 @@ pub fn set_words<C: Compositor>(
 ) -> Result<(), Fault>
     requires in_bounds { 72 ≤ length buffer.old }
     requires bytes_bound { line.offset + length line.bytes.now ≤ 60000 }
-    ensures { Plays playing compositor.old (word_acts (telling_shown telling.entry) (manner_of manner) (item_words title (line_of line.entry) (line_words line.entry.bytes.now))) compositor.new result }
+    ensures { Plays C.playing compositor.old (word_acts (telling_shown telling.entry) (manner_of manner) (item_words title (line_of line.entry) (line_words line.entry.bytes.now))) compositor.new result }
 {
     let mut at = prose_start(line.bytes);
     while let Some(word) = next_word(line.bytes, at) {

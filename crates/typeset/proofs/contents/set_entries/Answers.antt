@@ -17,27 +17,27 @@ loop-entry-init g c =
       c.new-reader.ensures.text,
     )
 
-pub returns-in-err-set-entry : goal.returns-in-err-set-entry
-returns-in-err-set-entry g c =
+pub returns-in_err-set_entry : goal.returns-in_err-set_entry
+returns-in_err-set_entry g c =
     let inv = c.loop-entry.invariant in
     let l = c.in-Some.heading in
-    let next = subst (λ (s : List ℕ). NextHeading s c.loop-entry.reader.place (Some l) c.next-heading.new.reader.place) inv.1 c.in-Some.ensures.next in
-    let p = err_from_is_err_and c.from-residual.result c.from-residual.ensures.1 in
-    rw (p.1, p.2) (refused_there g.C.Compositor.playing _ _ inv.0 (entry_first (telling_shown c.args.telling) c.args.asked c.args.telling.style c.args.entries.now c.loop-entry.entry-index c.entry-item.result (title_words (line_of l)) c.loop-entry-test.true c.entry-item.is next.0) c.in-err-set-entry.ensures)
+    let next = subst (λ (s : List ℕ). NextHeading s c.loop-entry.reader.place (Some l) c.next_heading.new.reader.place) inv.1 c.in-Some.ensures.next in
+    let p = err_from_is_err_and c.from_residual.result c.from_residual.ensures.1 in
+    rw (p.1, p.2) (refused_there g.C.Compositor.playing _ _ inv.0 (entry_first (telling_shown c.args.telling) c.args.asked c.args.telling.style c.args.entries.now c.loop-entry.entry-index c.entry-item.result (title_words (line_of l)) c.loop-entry-test.true c.entry-item.is next.0) c.in_err-set_entry.ensures)
 
-pub returns-in-default : goal.returns-in-default
-returns-in-default g c =
+pub returns-in_default : goal.returns-in_default
+returns-in_default g c =
     let inv = c.loop-entry.invariant in
-    let none = subst (λ (s : List ℕ). NextHeading s c.loop-entry.reader.place None c.next-heading.new.reader.place) inv.1 c.in-default.ensures.next in
+    let none = subst (λ (s : List ℕ). NextHeading s c.loop-entry.reader.place None c.next_heading.new.reader.place) inv.1 c.in_default.ensures.next in
     all_played g.C.Compositor.playing inv.0 (no_title_left (telling_shown c.args.telling) c.args.asked c.args.telling.style c.args.entries.now c.loop-entry.entry-index none)
 
 pub loop-entry-preserved : goal.loop-entry-preserved
 loop-entry-preserved g c =
     let inv = c.loop-entry.invariant in
     let l = c.in-Some.heading in
-    let next = subst (λ (s : List ℕ). NextHeading s c.loop-entry.reader.place (Some l) c.next-heading.new.reader.place) inv.1 c.in-Some.ensures.next in (
-      played_on g.C.Compositor.playing _ _ inv.0 (entry_first (telling_shown c.args.telling) c.args.asked c.args.telling.style c.args.entries.now c.loop-entry.entry-index c.entry-item.result (title_words (line_of l)) c.loop-entry-test.true c.entry-item.is next.0) c.in-ok-set-entry.ensures,
-      ap (λ r. r.now) c.next-heading.ensures.text ∙ inv.1,
+    let next = subst (λ (s : List ℕ). NextHeading s c.loop-entry.reader.place (Some l) c.next_heading.new.reader.place) inv.1 c.in-Some.ensures.next in (
+      played_on g.C.Compositor.playing _ _ inv.0 (entry_first (telling_shown c.args.telling) c.args.asked c.args.telling.style c.args.entries.now c.loop-entry.entry-index c.entry-item.result (title_words (line_of l)) c.loop-entry-test.true c.entry-item.is next.0) c.in_ok-set_entry.ensures,
+      ap (λ r. r.now) c.next_heading.ensures.text ∙ inv.1,
     )
 
 pub returns : goal.returns

@@ -8,4 +8,4 @@ use Rattle.typeset.proofs.headings.next_number.Goals as goal
 pub unreachable-requires : goal.unreachable-requires
 unreachable-requires c =
     let d = c.args.level in
-    true≢false (sym (risen_ok d c.args.number.counters c.requires.0.0 c.requires.0.1 c.requires.1) ∙ ap (λ (cs : Counters). number_ok d cs) (sym c.risen-counters.ensures) ∙ c.in-None.ensures)
+    true≢false (sym (risen_ok d c.args.number.counters c.requires.le_level.0 c.requires.le_level.1 c.requires.room) ∙ ap (λ (cs : Counters). number_ok d cs) (sym c.risen_counters.ensures) ∙ c.in-None.ensures)

@@ -4,4 +4,4 @@ use Rattle.typeset.proofs.Plays.{plays_then}
 use Rattle.typeset.proofs.headings.set_heading.Goals as goal
 
 pub returns : goal.returns
-returns g c = plays_then g.C.Compositor.playing (end_of_paragraph ∷ []) _ c.end-paragraph.ensures c.set-title.ensures
+returns g c = plays_then g.C.Compositor.playing (end_of_paragraph ∷ []) _ c.end_paragraph.ensures c.set_title.ensures

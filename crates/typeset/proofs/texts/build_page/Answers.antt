@@ -4,5 +4,5 @@ use Rattle.typeset.proofs.texts.build_page.Goals as goal
 
 pub returns : goal.returns
 returns c =
-    let p = c.write-page.ensures in
+    let p = c.write_page.ensures in
     record { text = front_text _ _ p.text; bound = omega (arith, p.bound) }

@@ -5,8 +5,8 @@ use Rattle.typeset.specs.Shown.{position_at}
 use Rattle.typeset.proofs.Lookups.{length_map, position_there}
 use Rattle.typeset.proofs.texts.entry_at.Goals as goal
 
-pub offset-bounds-entries-place : goal.offset-bounds-entries-place
-offset-bounds-entries-place c = let h = sym (length_map label_of c.labels-entries.result.now) ∙ ap length c.labels-entries.ensures.value in let k = c.labels-entries.ensures.bound in search rules
+pub offset_bounds-entries-place : goal.offset_bounds-entries-place
+offset_bounds-entries-place c = let h = sym (length_map label_of c.labels-entries.result.now) ∙ ap length c.labels-entries.ensures.value in let k = c.labels-entries.ensures.bound in search rules
 
 pub bounds-entries-place : goal.bounds-entries-place
 bounds-entries-place c = let h = sym (length_map label_of c.labels-entries.result.now) ∙ ap length c.labels-entries.ensures.value in omega (arith, h, c.requires)
