@@ -30,13 +30,13 @@ returns g c =
     let kept = accepted_kept t c.args.manuscript.accepted in
     let style = c.args.telling.style in
     let old = lists_of c.args.telling.old.now in
-    let laws = c.findings-hold.ensures in
+    let laws = c.findings_hold.ensures in
     let settings = g.L.Layout.meaning.settings c.args.layout.now in
     let acts = script style old (items t) in
-    let is = laws.found _ _ _ (scripts_fit style old t kept) _ _ c.walk-through.ensures.ends in
+    let is = laws.found _ _ _ (scripts_fit style old t kept) _ _ c.walk_through.ensures.ends in
     record {
       found = is;
-      apart = apart_told _ (λ ls n e. laws.apart settings c.args.pass acts ls n (scripts_apart style old t kept) e) c.walk-through.result _ is;
-      entries = entries_told t _ (λ ls n e. next_entries g.L.Layout.meaning settings style t c.args.pass old ls n e) c.walk-through.result _ is;
-      settings = c.walk-through.ensures.settings;
+      apart = apart_told _ (λ ls n e. laws.apart settings c.args.pass acts ls n (scripts_apart style old t kept) e) c.walk_through.result _ is;
+      entries = entries_told t _ (λ ls n e. next_entries g.L.Layout.meaning settings style t c.args.pass old ls n e) c.walk_through.result _ is;
+      settings = c.walk_through.ensures.settings;
     }
