@@ -9,8 +9,8 @@ use verdict::Progress;
 mod afterwards;
 mod locks;
 mod opens;
-mod passes;
 mod saves;
+mod steps;
 mod takes;
 mod tells;
 

@@ -51,8 +51,8 @@ impl Passing {
         layout: &mut L,
         workspace: &mut Workspace,
     ) -> Result<Passed, Fault>
-        ensures step { PassStep (pass_made meaning manuscript.entry.text.now self.old layout.old (desk_of workspace.old)) self.old (desk_of workspace.old) result self.new (desk_of workspace.new) }
-        ensures layout { LayoutLeft meaning self.old layout.old layout.new }
+        ensures step { PassStep (pass_made L.meaning manuscript.entry.text.now self.old layout.old (desk_of workspace.old)) self.old (desk_of workspace.old) result self.new (desk_of workspace.new) }
+        ensures layout { LayoutLeft L.meaning self.old layout.old layout.new }
     {
         if let Some(fault) = self.refusal() {
             return Err(fault);
@@ -80,9 +80,9 @@ impl Passing {
         layout: &mut L,
         workspace: &mut Workspace,
     ) -> Result<Passed, Fault>
-        ensures step { PassStep (pass_made meaning manuscript.entry.text.now self.old layout.old (desk_of workspace.old)) self.old (desk_of workspace.old) result self.new (desk_of workspace.new) }
-        ensures layout { LayoutLeft meaning self.old layout.old layout.new }
-        ensures leads { (x : Lists) → LeadsTo (own_step meaning manuscript.entry.text.now self.old layout.old) x self.old.progress (desk_of workspace.old) → LeadsTo (own_step meaning manuscript.entry.text.now self.old layout.old) x self.new.progress (desk_of workspace.new) }
+        ensures step { PassStep (pass_made L.meaning manuscript.entry.text.now self.old layout.old (desk_of workspace.old)) self.old (desk_of workspace.old) result self.new (desk_of workspace.new) }
+        ensures layout { LayoutLeft L.meaning self.old layout.old layout.new }
+        ensures leads { (x : Lists) → LeadsTo (own_step L.meaning manuscript.entry.text.now self.old layout.old) x self.old.progress (desk_of workspace.old) → LeadsTo (own_step L.meaning manuscript.entry.text.now self.old layout.old) x self.new.progress (desk_of workspace.new) }
     {
         leads_on();
         findings_hold::<L>();
@@ -97,10 +97,10 @@ impl Passing {
         layout: &mut L,
         workspace: &mut Workspace,
     ) -> Result<(Passed, Verdict), Fault>
-        ensures step { PassStep (pass_made meaning manuscript.entry.text.now self.old layout.old (desk_of workspace.old)) self.old (desk_of workspace.old) (passed_of result) self.new (desk_of workspace.new) }
-        ensures layout { LayoutLeft meaning self.old layout.old layout.new }
+        ensures step { PassStep (pass_made L.meaning manuscript.entry.text.now self.old layout.old (desk_of workspace.old)) self.old (desk_of workspace.old) (passed_of result) self.new (desk_of workspace.new) }
+        ensures layout { LayoutLeft L.meaning self.old layout.old layout.new }
         ensures value { IfOk result (λ p. VerdictStep self.new.progress p.1) }
-        ensures right { IfOk result (λ p. (x : Lists) → LeadsTo (own_step meaning manuscript.entry.text.now self.old layout.old) x self.old.progress (desk_of workspace.old) → Right (own_step meaning manuscript.entry.text.now self.old layout.old) x p.1) }
+        ensures right { IfOk result (λ p. (x : Lists) → LeadsTo (own_step L.meaning manuscript.entry.text.now self.old layout.old) x self.old.progress (desk_of workspace.old) → Right (own_step L.meaning manuscript.entry.text.now self.old layout.old) x p.1) }
     {
         let passed = self.pass(manuscript, layout, workspace)?;
         Ok((passed, self.verdict()))
