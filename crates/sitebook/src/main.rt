@@ -2,20 +2,20 @@
 // makes passes over it until they settle.
 #![tactic(auto)]
 
+use failures::Failure;
 use manuscript::check;
 use refusals::refusal;
 use settle::{Tries, settle_on_filler, settle_on_form};
 use std::env;
 use std::io::Read;
+use std::process::ExitCode;
 
+mod failures;
 mod refusals;
 mod settle;
 mod swings;
 
-const USAGE: &str =
-    "usage: sitebook check, or settle L W H LETTER LIMIT, or settle F W K R LETTER LIMIT; the book on standard input";
-
-fn check_book(rt: &HostRuntime) -> anyhow::Result<()> {
+fn check_book(rt: &HostRuntime) -> Result<(), Failure> {
     let mut text = Vec::new(rt.alloc());
     rt.stdin().read_to_end(&mut text)?;
     match check(&text) {
@@ -25,19 +25,19 @@ fn check_book(rt: &HostRuntime) -> anyhow::Result<()> {
             println!(rt; "headings {}", counts.headings)?;
             Ok(())
         }
-        Err(fault) => Err(refusal(rt.alloc(), &text, fault)?.into()),
+        Err(fault) => Err(Failure::Refused(refusal(rt.alloc(), &text, fault)?)),
     }
 }
 
-fn number(text: &str) -> anyhow::Result<usize> {
+fn number(text: &str) -> Result<usize, Failure> {
     match text.parse::<usize>() {
         Ok(n) => Ok(n),
-        Err(_) => Err(USAGE.into()),
+        Err(_) => Err(Failure::Usage),
     }
 }
 
 // A letter of another length is no letter of numerals, which opening then refuses.
-fn tries(letter: &str, limit: &str) -> anyhow::Result<Tries> {
+fn tries(letter: &str, limit: &str) -> Result<Tries, Failure> {
     let letter = match letter.as_bytes() {
         [letter] => *letter,
         _ => 0,
@@ -46,7 +46,7 @@ fn tries(letter: &str, limit: &str) -> anyhow::Result<Tries> {
     Ok(Tries { letter, limit })
 }
 
-fn settle_book(rt: &HostRuntime, words: &[&str]) -> anyhow::Result<()> {
+fn settle_book(rt: &HostRuntime, words: &[&str]) -> Result<(), Failure> {
     match words {
         ["L", width, height, letter, limit] => {
             settle_on_filler(
@@ -60,11 +60,11 @@ fn settle_book(rt: &HostRuntime, words: &[&str]) -> anyhow::Result<()> {
             let tries = tries(*letter, *limit)?;
             settle_on_form(rt, tries, number(*cell)?, number(*cells)?, number(*rows)?)
         }
-        _ => Err(USAGE.into()),
+        _ => Err(Failure::Usage),
     }
 }
 
-fn run(rt: &HostRuntime) -> anyhow::Result<()> {
+fn run(rt: &HostRuntime) -> Result<(), Failure> {
     let heap = rt.alloc();
     let mut arguments = Vec::new(heap);
     for word in env::args(rt)? {
@@ -78,14 +78,16 @@ fn run(rt: &HostRuntime) -> anyhow::Result<()> {
     match words {
         [_, "check"] => check_book(rt),
         [_, "settle", rest @ ..] => settle_book(rt, rest),
-        _ => Err(USAGE.into()),
+        _ => Err(Failure::Usage),
     }
 }
 
-fn main(rt: HostRuntime) -> anyhow::Result<()> {
-    let result = run(&rt);
-    if let Err(e) = &result {
-        eprintln!(rt; "sitebook: {e}")?;
+fn main(rt: HostRuntime) -> ExitCode {
+    match run(&rt) {
+        Ok(()) => ExitCode::SUCCESS,
+        Err(failure) => {
+            let _ = eprintln!(rt; "sitebook: {failure}");
+            ExitCode::FAILURE
+        }
     }
-    result
 }

@@ -1,4 +1,5 @@
 // `sitebook settle`: passes until the verdict or the limit, a line for each, and then what is said of them.
+use crate::failures::Failure;
 use crate::refusals::refusal;
 use crate::swings::print_swings;
 use faults::Fault;
@@ -60,7 +61,7 @@ fn print_pass(
     passed: Passed,
     table: &Table,
     before: &[u16],
-) -> anyhow::Result<()> {
+) -> Result<(), Failure> {
     let number = passed.number;
     let words = passed.words;
     let moved = moved_labels(rt.alloc(), table, before)?;
@@ -73,7 +74,7 @@ fn print_verdict(
     verdict: Verdict,
     table: &Table,
     history: &[Vec<u16>],
-) -> anyhow::Result<()> {
+) -> Result<(), Failure> {
     let passes = verdict.passes;
     let period = verdict.period;
     let since = verdict.since;
@@ -98,7 +99,7 @@ fn make_passes<L: Layout>(
     text: Manuscript,
     layout: &mut L,
     workspace: &mut Workspace,
-) -> anyhow::Result<Result<Vec<Vec<u16>>, Fault>> {
+) -> Result<Result<Vec<Vec<u16>>, Fault>, Failure> {
     let heap = rt.alloc();
     let mut history = Vec::new(heap);
     let mut before = pages_of(heap, workspace.current())?;
@@ -122,7 +123,7 @@ fn settle_text<L: Layout>(
     tries: Tries,
     text: Manuscript,
     layout: &mut L,
-) -> anyhow::Result<Result<(), Fault>> {
+) -> Result<Result<(), Fault>, Failure> {
     let heap = rt.alloc();
     let start = Record::empty(heap)?;
     let mut workspace = Workspace::new(heap)?;
@@ -140,15 +141,15 @@ fn settle_text<L: Layout>(
 }
 
 // Reads a book on standard input, and settles it on a layout.
-fn settle_on<L: Layout>(rt: &HostRuntime, tries: Tries, layout: &mut L) -> anyhow::Result<()> {
+fn settle_on<L: Layout>(rt: &HostRuntime, tries: Tries, layout: &mut L) -> Result<(), Failure> {
     let mut text = Vec::new(rt.alloc());
     rt.stdin().read_to_end(&mut text)?;
     if let Err(fault) = check(&text) {
-        return Err(refusal(rt.alloc(), &text, fault)?.into());
+        return Err(Failure::Refused(refusal(rt.alloc(), &text, fault)?));
     }
     match settle_text(rt, tries, bind(&text), layout)? {
         Ok(()) => Ok(()),
-        Err(fault) => Err(refusal(rt.alloc(), &text, fault)?.into()),
+        Err(fault) => Err(Failure::Refused(refusal(rt.alloc(), &text, fault)?)),
     }
 }
 
@@ -157,10 +158,10 @@ pub fn settle_on_filler(
     tries: Tries,
     width: usize,
     height: usize,
-) -> anyhow::Result<()> {
+) -> Result<(), Failure> {
     match LineFiller::new(width, height) {
         Ok(mut filler) => settle_on(rt, tries, &mut filler),
-        Err(fault) => Err(refusal(rt.alloc(), &[], fault)?.into()),
+        Err(fault) => Err(Failure::Refused(refusal(rt.alloc(), &[], fault)?)),
     }
 }
 
@@ -170,9 +171,9 @@ pub fn settle_on_form(
     width: usize,
     cells: usize,
     rows: usize,
-) -> anyhow::Result<()> {
+) -> Result<(), Failure> {
     match FixedForm::new(width, cells, rows) {
         Ok(mut form) => settle_on(rt, tries, &mut form),
-        Err(fault) => Err(refusal(rt.alloc(), &[], fault)?.into()),
+        Err(fault) => Err(Failure::Refused(refusal(rt.alloc(), &[], fault)?)),
     }
 }

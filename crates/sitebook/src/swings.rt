@@ -1,4 +1,5 @@
 // Where an oscillating book swings: what stands on several pages from a pass on, and on which.
+use crate::failures::Failure;
 use numerals::heading_number;
 use record::Table;
 use std::alloc::{AllocError, Global};
@@ -32,7 +33,7 @@ fn listed(heap: Global, pages: &[u16]) -> Result<String, AllocError> {
     Ok(text)
 }
 
-fn print_pages(rt: &HostRuntime, what: &str, name: &[u8], pages: &[u16]) -> anyhow::Result<()> {
+fn print_pages(rt: &HostRuntime, what: &str, name: &[u8], pages: &[u16]) -> Result<(), Failure> {
     if pages.len() < 2 {
         return Ok(());
     }
@@ -47,7 +48,7 @@ fn print_label_swings(
     table: &Table,
     history: &[Vec<u16>],
     since: usize,
-) -> anyhow::Result<()> {
+) -> Result<(), Failure> {
     for (i, entry) in table.labels().iter().enumerate() {
         let pages = pages_at(rt.alloc(), history, since, i)?;
         print_pages(rt, "label", entry.name.as_bytes(), &pages)?;
@@ -60,7 +61,7 @@ fn print_heading_swings(
     table: &Table,
     history: &[Vec<u16>],
     since: usize,
-) -> anyhow::Result<()> {
+) -> Result<(), Failure> {
     let labels = table.label_count();
     for (i, entry) in table.contents().iter().enumerate() {
         let pages = pages_at(rt.alloc(), history, since, labels.saturating_add(i))?;
@@ -78,7 +79,7 @@ pub fn print_swings(
     table: &Table,
     history: &[Vec<u16>],
     since: usize,
-) -> anyhow::Result<()> {
+) -> Result<(), Failure> {
     print_label_swings(rt, table, history, since)?;
     print_heading_swings(rt, table, history, since)
 }
