@@ -14,7 +14,7 @@
 --   apart         no two names are the same
 use Rattle.std.specs.Prelude.{◌≡◌, ℕ, ◌^◌, ◌<◌, ◌≤◌, Bool, true, false, not, ◌&&◌, ◌||◌, List, [], ◌∷◌, length, codes, refl}
 use Rattle.std.proofs.Common.{arith}
-use Rattle.std.specs.List.{AllByRecursion as All}
+use Rattle.std.specs.List.{AllByRecursion}
 use Rattle.std.specs.Str.{bytes_eq}
 use Rattle.compose.specs.declared.acts.Source.{Source}
 use Rattle.compose.specs.Acts.{Number, Part, plain, label, heading, page_reference, number_reference, contents, Act, set_word, end_of_paragraph, end_of_page}
@@ -67,7 +67,7 @@ wording acts = length (parts acts)
 pub record Fits (acts : List Act) : Type 0 where
   pub labels : labelling acts ≤ 128
   pub headings : titling acts ≤ 128
-  pub levels : All (λ (k : Number). 1 ≤ k.level) (titles acts)
+  pub levels : AllByRecursion (λ (k : Number). 1 ≤ k.level) (titles acts)
   pub words : wording acts < 2 ^ 64
 
 abbrev pub among : List ℕ → List (List ℕ) → Bool

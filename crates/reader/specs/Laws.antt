@@ -8,7 +8,7 @@
 --   Within         an offset lies in one of some words
 --   WordsLaw       every word is a longest run, and every byte that is no space lies in a word
 use Rattle.std.specs.Prelude.{◌≡◌, ℕ, suc, ◌+◌, ◌<◌, ◌≤◌, true, ◌⊎◌, List, [], ◌∷◌, ◌++◌, length, take, drop, slice_index}
-use Rattle.std.specs.List.{AllByRecursion as All}
+use Rattle.std.specs.List.{AllByRecursion}
 use Rattle.runs.specs.Run.{all}
 use Rattle.reader.specs.Lines.{in_line, SourceLine, lines}
 use Rattle.reader.specs.Words.{in_word, SourceWord, words}
@@ -24,7 +24,7 @@ abbrev pub LineStands : List ℕ → SourceLine → Type 0
 LineStands t l = (all in_line l.bytes ≡ true) × (take (length l.bytes) (drop l.offset t) ≡ l.bytes)
 
 abbrev pub LinesLaw : List ℕ → Type 0
-LinesLaw t = Rejoined (lines t) t × All (LineStands t) (lines t)
+LinesLaw t = Rejoined (lines t) t × AllByRecursion (LineStands t) (lines t)
 
 pub record LongestRun (i : ℕ) (l : List ℕ) (w : SourceWord) : Type 0 where
   pub at : ℕ
@@ -41,5 +41,5 @@ Within k (w ∷ ws) = ((w.offset ≤ k) × (k < w.offset + length w.bytes)) ⊎ 
 
 abbrev pub WordsLaw : ℕ → List ℕ → Type 0
 WordsLaw i l =
-    All (LongestRun i l) (words i l)
+    AllByRecursion (LongestRun i l) (words i l)
     × ((k : ℕ) → k < length l → in_word (slice_index l k) ≡ true → Within (i + k) (words i l))
