@@ -1,5 +1,5 @@
 -- What keeps the rules the check accepts, and so it accepts just that.
-use Rattle.std.proofs.Common.{◌≡◌, ℕ, zero, suc, ◌+◌, ◌<◌, ◌≤◌, Bool, true, false, cond, not, ◌&&◌, ◌||◌, ltb, ◌⊎◌, List, [], ◌∷◌, ◌++◌, length, is_ok, Some, None, Ok, Err, codes, Option, Result, sym, refl, ap, ◌∙◌, subst, inl, inr, ⊎_elim, append_assoc, arith, length-append}
+use Rattle.std.proofs.Common.{◌≡◌, ℕ, suc, ◌+◌, ◌<◌, ◌≤◌, Bool, true, false, cond, not, ltb, ◌⊎◌, List, [], ◌∷◌, ◌++◌, length, is_ok, Some, None, Ok, Err, codes, Result, sym, refl, ap, ◌∙◌, subst, inl, inr, ⊎_elim, append_assoc, arith, length-append}
 use Rattle.std.specs.Str.{bytes_eq}
 use Rattle.std.proofs.lemmas.Slice.Eq.{bytes_eq-Decides}
 use Rattle.std.proofs.lemmas.Bool.{cond-true, cond-false, cases_Bool, and_parts, or_cases, lt-ltb, le-ltb, ltb-false, true≢false, cases_lt}
@@ -15,13 +15,13 @@ use Rattle.reader.specs.declared.kinds.Kind.{Kind}
 use Rattle.reader.specs.declared.kinds.Kind.TheVariants.{Heading, Directive, Remark, Text}
 use Rattle.runs.specs.Run.{all}
 use Rattle.manuscript.specs.Standing.{Marking, heading, is_title, marking, word_marks, line_marks, text_marks, marks, among, unmet_by, unmet, dangling}
-use Rattle.manuscript.specs.Scanning.{Seen, nothing, then, allowed, titled, defined, marked_by, noted, entered, scan_words, scan_line, scan_lines}
+use Rattle.manuscript.specs.Scanning.{Seen, nothing, then, allowed, titled, marked_by, noted, entered, scan_words, scan_line, scan_lines}
 use Rattle.manuscript.specs.Checking.{unless, resolved, checked}
 use Rattle.manuscript.specs.Labelled.{is_label, definitions, named, Labelled}
-use Rattle.manuscript.specs.Rules.{asked, words_kept, line_kept, lines_kept, headings, wants, wanted, labels, Kept, Counted, Accepts}
+use Rattle.manuscript.specs.Rules.{asked, words_kept, line_kept, lines_kept, headings, wants, wanted, labels, Kept, Accepts}
 use Rattle.manuscript.specs.declared.counts.Counts.{Counts}
 use Rattle.manuscript.proofs.Labelling.{occurs, Once, labels_of, labels_append, definitions_occur, occurs_some, occurs_none, occurs_push, adds_none, entered_keeps, Keeps, refused, same_ok, Adds, noted_adds, line_adds, lines_add, accepted, labelled}
-use Rattle.manuscript.proofs.Keeping.{Holds, line_holds, lines_hold}
+use Rattle.manuscript.proofs.Keeping.{line_holds, lines_hold}
 
 occurs_append : (n : List ℕ) (xs ys : List (List ℕ)) → occurs n (xs ++ ys) ≡ occurs n xs + occurs n ys
 occurs_append n [] ys = omega arith

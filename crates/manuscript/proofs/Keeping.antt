@@ -1,20 +1,19 @@
 -- What the check accepts keeps the rules.
-use Rattle.std.proofs.Common.{◌≡◌, ℕ, zero, suc, ◌+◌, ◌<◌, ◌≤◌, Bool, true, false, cond, not, ◌&&◌, ◌||◌, ltb, leb, ◌⊎◌, List, [], ◌∷◌, ◌++◌, length, is_ok, Some, None, Ok, Err, codes, Option, Result, sym, refl, ap, ◌∙◌, subst, inl, inr, ⊎_elim, arith, length-append}
+use Rattle.std.proofs.Common.{◌≡◌, ℕ, ◌+◌, ◌≤◌, Bool, true, false, cond, ltb, List, [], ◌∷◌, ◌++◌, length, is_ok, Some, None, Ok, Err, codes, Result, sym, refl, ap, ◌∙◌, subst, arith, length-append}
 use Rattle.std.specs.Str.{bytes_eq}
-use Rattle.std.proofs.lemmas.Bool.{cond-true, cond-false, cond_both, cases_Bool, and_from, or_left, or_right, ltb-true, ltb-false}
-use Rattle.faults.specs.declared.fault.Fault.{Fault}
+use Rattle.std.proofs.lemmas.Bool.{cond-true, cond-false, and_from, or_left, or_right, ltb-true}
 use Rattle.faults.specs.declared.fault.Span.{Span}
 use Rattle.marks.specs.Parts.{Parts, parts}
 use Rattle.marks.specs.declared.mark.Mark.{Mark}
 use Rattle.marks.specs.declared.mark.Mark.TheVariants.{Label, Page, Number}
 use Rattle.reader.specs.Kinds.{kind, line_words}
-use Rattle.reader.specs.Lines.{SourceLine, lines}
+use Rattle.reader.specs.Lines.{SourceLine}
 use Rattle.reader.specs.Words.{SourceWord}
 use Rattle.reader.specs.declared.kinds.Kind.{Kind}
 use Rattle.reader.specs.declared.kinds.Kind.TheVariants.{Heading, Directive, Remark, Text}
 use Rattle.runs.specs.Run.{all}
-use Rattle.manuscript.specs.Standing.{Marking, heading, is_title}
-use Rattle.manuscript.specs.Scanning.{Seen, then, allowed, titled, defined, marked_by, noted, entered, scan_words, scan_line, scan_lines}
+use Rattle.manuscript.specs.Standing.{heading, is_title}
+use Rattle.manuscript.specs.Scanning.{Seen, allowed, titled, defined, marked_by, noted, entered, scan_words, scan_line, scan_lines}
 use Rattle.manuscript.specs.Rules.{asked, words_kept, line_kept, lines_kept, headings, wants, wanted}
 use Rattle.manuscript.proofs.Labelling.{refused, same_ok, then_ok, passed_by}
 

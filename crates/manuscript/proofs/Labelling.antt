@@ -1,10 +1,9 @@
 -- Every text that passes the check is labelled.
-use Rattle.std.proofs.Common.{◌≡◌, ℕ, zero, suc, ◌+◌, ◌<◌, ◌≤◌, Bool, true, false, cond, not, ◌&&◌, ◌||◌, ltb, ◌⊎◌, List, [], ◌∷◌, ◌++◌, length, is_ok, IfOk, Some, None, Ok, Err, codes, Option, Result, sym, refl, ap, ◌∙◌, subst, inl, inr, ⊎_elim, append_assoc, add-zero, arith}
-use Rattle.std.specs.List.{AllByRecursion as All}
+use Rattle.std.proofs.Common.{◌≡◌, ℕ, zero, suc, ◌+◌, ◌<◌, ◌≤◌, Bool, true, false, cond, ◌&&◌, ◌||◌, ltb, ◌⊎◌, List, [], ◌∷◌, ◌++◌, length, is_ok, IfOk, Some, None, Ok, Err, codes, Option, Result, sym, refl, ap, ◌∙◌, subst, inl, inr, ⊎_elim, append_assoc, arith}
 use Rattle.std.specs.Str.{bytes_eq}
 use Rattle.std.proofs.lemmas.Slice.Eq.{bytes_eq-Decides}
 use Rattle.std.proofs.lemmas.List.{append-nil}
-use Rattle.std.proofs.lemmas.Bool.{cond-true, cond-false, cases_Bool, or_parts, not-false}
+use Rattle.std.proofs.lemmas.Bool.{cond-true, cond-false, cases_Bool, not-false}
 use Rattle.faults.specs.declared.fault.Fault.{Fault}
 use Rattle.faults.specs.declared.fault.Span.{Span}
 use Rattle.marks.specs.Parts.{Parts, parts}
@@ -19,7 +18,7 @@ use Rattle.manuscript.specs.Standing.{Marking, marking, word_marks, line_marks, 
 use Rattle.manuscript.specs.Scanning.{Seen, nothing, then, defined, marked_by, noted, titled, entered, scan_words, scan_line, scan_lines}
 use Rattle.manuscript.specs.Checking.{unless, resolved, checked}
 use Rattle.manuscript.specs.declared.counts.Counts.{Counts}
-use Rattle.manuscript.specs.Labelled.{is_label, defines, definitions, named, Labelled}
+use Rattle.manuscript.specs.Labelled.{is_label, definitions, named, Labelled}
 
 -- how often a name stands among names
 abbrev pub occurs : List ℕ → List (List ℕ) → ℕ

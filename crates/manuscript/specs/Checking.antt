@@ -2,7 +2,7 @@
 --   resolved    the counts, or the first reference without a label
 --   checked     the counts of a manuscript, or the first refusal
 --   bound       the bytes of a manuscript, or none where checking refuses them
-use Rattle.std.specs.Prelude.{◌≡◌, ℕ, Bool, cond, List, [], length, is_ok, Some, None, Ok, Err, codes, Option, Result, nat_lt, refl}
+use Rattle.std.specs.Prelude.{◌≡◌, ℕ, cond, List, [], length, is_ok, Some, None, Ok, Err, codes, Option, Result, nat_lt, refl}
 use Rattle.faults.specs.Faults.{plain, in_line_lem, about_name_lem}
 use Rattle.faults.specs.declared.cause.Cause.TheVariants.{ManuscriptTooLong, MarkMalformed, ReferenceWithoutLabel}
 use Rattle.faults.specs.declared.fault.Fault.{Fault}

@@ -10,7 +10,7 @@
 --   Kept          a text keeps all rules
 --   Counted       counts are those of a text
 --   Accepts       the check accepts exactly the texts that keep the rules, and counts their lines, labels and headings
-use Rattle.std.specs.Prelude.{◌≡◌, ℕ, ◌+◌, ◌≤◌, Bool, true, false, cond, ◌&&◌, ◌||◌, List, [], ◌∷◌, length, is_ok, Ok, Err, codes, Result, refl}
+use Rattle.std.specs.Prelude.{◌≡◌, ℕ, ◌+◌, ◌≤◌, Bool, true, false, cond, ◌&&◌, ◌||◌, List, [], ◌∷◌, length, is_ok, Ok, Err, codes, Result}
 use Rattle.std.specs.Str.{bytes_eq}
 use Rattle.faults.specs.declared.fault.Fault.{Fault}
 use Rattle.marks.specs.Parts.{parts}

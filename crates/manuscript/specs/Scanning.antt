@@ -9,13 +9,13 @@
 --   entered       what the kind of a line asks of it before its words
 --   scan_line     a line
 --   scan_lines    lines
-use Rattle.std.specs.Prelude.{◌≡◌, ℕ, ◌+◌, Bool, true, false, cond, ◌&&◌, List, [], ◌∷◌, ◌++◌, length, Some, None, Ok, Err, codes, Option, Result, ◌==◌, nat_le, nat_lt, slice_index, refl}
+use Rattle.std.specs.Prelude.{ℕ, ◌+◌, Bool, true, false, cond, ◌&&◌, List, [], ◌∷◌, ◌++◌, length, Some, None, Ok, Err, codes, Result, ◌==◌, nat_le, nat_lt, slice_index}
 use Rattle.std.specs.Str.{bytes_eq}
 use Rattle.faults.specs.Faults.{in_line_lem, about_name_lem}
 use Rattle.faults.specs.declared.cause.Cause.TheVariants.{ByteNotAllowed, HeadingMalformed, DirectiveUnknown, SecondContents, LabelRepeated, TooManyLabels, TooManyHeadings}
 use Rattle.faults.specs.declared.fault.Fault.{Fault}
 use Rattle.faults.specs.declared.fault.Span.{Span}
-use Rattle.marks.specs.Parts.{MarkedWord, Parts, parts}
+use Rattle.marks.specs.Parts.{Parts, parts}
 use Rattle.marks.specs.declared.mark.Mark.{Mark}
 use Rattle.marks.specs.declared.mark.Mark.TheVariants.{Label, Page, Number}
 use Rattle.reader.specs.Kinds.{kind, level, line_words}

@@ -1,5 +1,5 @@
 -- Taking a word apart loses nothing of it.
-use Rattle.std.proofs.Common.{◌≡◌, ℕ, ◌+◌, ◌≤◌, Bool, true, false, cond, ◌&&◌, eqb, ltb, ◌⊎◌, List, [], ◌∷◌, ◌++◌, length, take, drop, Some, None, Ok, Err, Option, sym, refl, ap, ◌∙◌, subst, inl, inr, ⊎_elim, append_assoc, arith, take-append-drop, length-take-le}
+use Rattle.std.proofs.Common.{◌≡◌, ℕ, ◌+◌, Bool, true, ◌&&◌, eqb, ltb, List, [], ◌∷◌, ◌++◌, length, take, drop, Some, None, Option, sym, refl, ap, ◌∙◌, subst, append_assoc, arith, take-append-drop}
 use Rattle.std.specs.List.{prefix_len}
 use Rattle.std.proofs.lemmas.List.{append-nil}
 use Rattle.std.proofs.lemmas.Bool.{cond_both, eqb-true, and_parts}
@@ -10,8 +10,8 @@ use Rattle.runs.specs.Run.{all}
 use Rattle.runs.proofs.Fronts.{all_front}
 use Rattle.marks.specs.declared.mark.Mark.{Mark}
 use Rattle.marks.specs.declared.mark.Mark.TheVariants.{Label, Page, Number}
-use Rattle.marks.specs.Parts.{plain, MarkedWord, Parts, mark_of, right, standing, sized, shut, closed, marked, opened, parts}
-use Rattle.marks.specs.Whole.{letter, mark_bytes, Joined, Whole}
+use Rattle.marks.specs.Parts.{plain, mark_of, right, standing, shut, closed, marked, opened, parts}
+use Rattle.marks.specs.Whole.{letter, mark_bytes, Whole}
 
 right_is : (n : Naming) → right n ≡ true → n ≡ Right
 right_is Right h = refl

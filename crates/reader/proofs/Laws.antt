@@ -1,11 +1,11 @@
 -- How lines and words come apart at a place of a text.
-use Rattle.std.proofs.Common.{◌≡◌, ℕ, zero, suc, ◌+◌, ◌-◌, ◌<◌, ◌≤◌, Bool, true, false, cond, not, eqb, List, [], ◌∷◌, length, get_or, take, drop, sym, refl, ap, ◌∙◌, subst, ⊎_elim, add-zero, add-one, one-add, arith, length-drop, length-take-le, drop-drop}
+use Rattle.std.proofs.Common.{◌≡◌, ℕ, zero, suc, ◌+◌, ◌-◌, ◌<◌, ◌≤◌, Bool, true, not, List, [], ◌∷◌, length, get_or, take, drop, sym, refl, ap, ◌∙◌, subst, ⊎_elim, add-zero, add-one, one-add, arith, length-drop, length-take-le, drop-drop}
 use Rattle.std.specs.List.{prefix_len}
 use Rattle.std.proofs.lemmas.List.{at_drop_all, drop_more}
 use Rattle.std.proofs.lemmas.List.Sums.{prefix_len-le-length}
 use Rattle.std.proofs.lemmas.Bool.{cond-true, cond-false, cases_Bool}
-use Rattle.reader.specs.Lines.{in_line, SourceLine, lines_past, lines_from}
-use Rattle.reader.specs.Words.{space, in_word, SourceWord, words_past, words}
+use Rattle.reader.specs.Lines.{in_line, lines_past, lines_from}
+use Rattle.reader.specs.Words.{space, in_word, words_past, words}
 
 -- a longest front from a place stays within the list
 pub leading_within : (p : ℕ → Bool) (t : List ℕ) (i : ℕ) → i ≤ length t → i + prefix_len p (drop i t) ≤ length t

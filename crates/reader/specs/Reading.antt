@@ -8,7 +8,7 @@
 --   NextLine     the next line, and the reader's place then
 --   WordAt       where the first word at or after a place of a line begins and ends
 --   NextWord     that word
-use Rattle.std.specs.Prelude.{◌≡◌, ℕ, ◌+◌, ◌-◌, ◌<◌, ◌≤◌, List, [], ◌∷◌, length, take, drop, Some, None, Option}
+use Rattle.std.specs.Prelude.{◌≡◌, ℕ, ◌+◌, ◌-◌, ◌<◌, ◌≤◌, List, [], ◌∷◌, length, drop, Some, None, Option}
 use Rattle.std.specs.List.{between}
 use Rattle.reader.specs.declared.place.Place.{Place}
 use Rattle.reader.specs.declared.place.Line.{Line}

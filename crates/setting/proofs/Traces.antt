@@ -8,7 +8,7 @@ use Rattle.compose.specs.declared.acts.Source.{Source}
 use Rattle.layout.specs.Meaning.{Meaning, Outcome, refused, placed}
 use Rattle.layout.specs.Spots.{page_of}
 use Rattle.setting.specs.Keeping.{Keeping}
-use Rattle.setting.specs.Typesetting.{Setup, heard, plays}
+use Rattle.setting.specs.Typesetting.{heard, plays}
 use Rattle.setting.specs.Tracing.{SetWord, Trace, all, upto, onto, traced, trace, finish, KeepersHear}
 
 finish_onto : {Place K : Type 0} (k : Keeping K) (f : k.Fixed) (x : k.Kept) (w : SetWord) (v : Trace Place) → finish k f (k.hears f x w.bytes w.part (page_of w.spot)) v ≡ finish k f x (onto w v)

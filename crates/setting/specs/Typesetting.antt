@@ -5,7 +5,7 @@
 --   heard          a word after the layout's outcome
 --   plays          an act
 --   typesetting    the meaning of the compositor
-use Rattle.std.specs.Prelude.{List, [], ◌∷◌, ℕ}
+use Rattle.std.specs.Prelude.{◌∷◌, ℕ}
 use Rattle.compose.specs.Acts.{Act, set_word, end_of_paragraph, end_of_page}
 use Rattle.compose.specs.Playing.{Play, Playing, played}
 use Rattle.compose.specs.Playing as playing
@@ -14,7 +14,7 @@ use Rattle.faults.specs.declared.cause.Cause.{Cause}
 use Rattle.faults.specs.declared.cause.Cause.TheVariants as causes
 use Rattle.faults.specs.declared.fault.Fault.{Fault}
 use Rattle.layout.specs.Meaning.{Meaning, Outcome, refused, placed}
-use Rattle.layout.specs.Spots.{Spot, page_of}
+use Rattle.layout.specs.Spots.{page_of}
 use Rattle.layout.specs.declared.refusal.Refusal.{Refusal}
 use Rattle.layout.specs.declared.refusal.Refusal.TheVariants.{WordTooWide, PagesUsedUp}
 use Rattle.setting.specs.Keeping.{Keeping}

@@ -1,8 +1,8 @@
 -- The verdict is right, by what the numbers stand for along a run. Assumes nothing.
-use Rattle.std.proofs.Common.{◌≡◌, ℕ, zero, suc, ◌+◌, ◌-◌, ◌*◌, ◌<◌, ◌≤◌, Bool, true, false, cond, eqb, Some, None, Decides, Option, sym, refl, ap, ◌∙◌, subst, ⊎_elim, arith}
+use Rattle.std.proofs.Common.{◌≡◌, ℕ, suc, ◌+◌, ◌-◌, ◌*◌, ◌<◌, ◌≤◌, Bool, true, false, cond, eqb, Some, Decides, Option, sym, refl, ap, ◌∙◌, subst, ⊎_elim, arith}
 use mathlib.Core.Bool.{false≢true}
 use Rattle.std.proofs.lemmas.Bool.{cases_lt, eqb-false, eq-eqb, ne_eqb}
-use Rattle.verdict.specs.Brent.{numbers, start, takes, ruled, advanced, at_anchor_lem, kind_number, verdict_of}
+use Rattle.verdict.specs.Brent.{numbers, takes, ruled, at_anchor_lem, kind_number, verdict_of}
 use Rattle.verdict.specs.Runs.{next, run, Rests, Period, Reached, begun, passed, Right, AlwaysRight}
 use Rattle.verdict.specs.declared.outcome.Outcome.{Outcome}
 use Rattle.verdict.specs.declared.outcome.Outcome.TheVariants.{Open, Settled, Oscillates}

@@ -9,7 +9,7 @@
 --   period_of     the period that is named
 --   since_of      the pass that it is named from
 --   verdict_of    all that is said
-use Rattle.std.specs.Prelude.{ℕ, ◌+◌, ◌-◌, ◌*◌, Bool, true, false, cond, ◌==◌, nat_lt}
+use Rattle.std.specs.Prelude.{ℕ, ◌+◌, ◌-◌, ◌*◌, Bool, false, cond, ◌==◌, nat_lt}
 use Rattle.verdict.specs.declared.outcome.Outcome.{Outcome}
 use Rattle.verdict.specs.declared.outcome.Outcome.TheVariants.{Open, Settled, Oscillates}
 use Rattle.verdict.specs.declared.outcome.Verdict.{Verdict}

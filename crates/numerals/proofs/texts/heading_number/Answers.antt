@@ -1,4 +1,4 @@
-use Rattle.std.proofs.Common.{ℕ, ◌-◌, List, subst}
+use Rattle.std.proofs.Common.{ℕ, List, subst}
 use Rattle.buffers.specs.Written.{Puts}
 use Rattle.buffers.proofs.Writing.{front_is}
 use Rattle.numerals.proofs.texts.heading_number.Goals as goal

@@ -1,9 +1,9 @@
-use Rattle.std.proofs.Common.{◌≡◌, ℕ, ◌+◌, ◌-◌, ◌<◌, ◌≤◌, ◌∷◌, length, take, drop, sym, ap, ◌∙◌, subst, arith, length-drop}
+use Rattle.std.proofs.Common.{◌≡◌, ◌+◌, ◌-◌, ◌<◌, ◌∷◌, length, take, drop, sym, ap, ◌∙◌, arith}
 use Rattle.std.specs.List.{prefix_len}
 use Rattle.std.proofs.lemmas.List.{at_drop_all, take_rest}
 use Rattle.reader.specs.Words.{space, in_word, words}
 use Rattle.reader.proofs.Runs.{words_law}
-use Rattle.reader.proofs.Laws.{words_none, word_here, word_length, leading_within}
+use Rattle.reader.proofs.Laws.{words_none, word_here, word_length}
 use Rattle.reader.proofs.words.word_bounds.Goals as goal
 
 pub returns-then-at-line : goal.returns-then-at-line

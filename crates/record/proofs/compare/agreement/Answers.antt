@@ -1,4 +1,4 @@
-use Rattle.std.proofs.Common.{◌≡◌, ℕ, ◌+◌, ◌<◌, ◌≤◌, true, length, take, sym, ◌∙◌, subst, arith, take_all}
+use Rattle.std.proofs.Common.{◌≡◌, ℕ, ◌+◌, ◌<◌, true, length, take, sym, ◌∙◌, subst, arith, take_all}
 use Rattle.record.proofs.Fronts.{front_more, at_front, end_apart}
 use Rattle.record.proofs.compare.agreement.Goals as goal
 

@@ -1,4 +1,4 @@
-use Rattle.std.proofs.Common.{◌-◌, take, sym, refl, ap, ◌∙◌, subst}
+use Rattle.std.proofs.Common.{take, sym, refl, ap, ◌∙◌, subst}
 use native.Mathlib.Nat.{sub-zero}
 use Rattle.record.specs.Records.{record_lists}
 use Rattle.recordlines.specs.Step.{Step, step, line_step, frame_step}

@@ -1,4 +1,4 @@
-use Rattle.std.proofs.Common.{ℕ, ◌+◌, ◌-◌, List, length, sym, ap, ◌∙◌, arith, length-append}
+use Rattle.std.proofs.Common.{ℕ, ◌+◌, List, length, sym, ap, ◌∙◌, arith, length-append}
 use Rattle.buffers.specs.Written.{written}
 use Rattle.buffers.proofs.Writing.{front_is, written_none}
 use Rattle.recordlines.specs.Frame.{line}

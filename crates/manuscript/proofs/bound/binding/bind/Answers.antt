@@ -1,4 +1,4 @@
-use Rattle.std.proofs.Common.{◌≡◌, true, is_ok, sym, refl, ap, ◌∙◌}
+use Rattle.std.proofs.Common.{◌≡◌, true, is_ok, sym, ap, ◌∙◌}
 use Rattle.manuscript.specs.Checking.{checked}
 use Rattle.manuscript.proofs.Labelling.{labelled}
 use Rattle.manuscript.proofs.bound.binding.bind.Goals as goal
