@@ -4,9 +4,9 @@
 usage: python3 tools/respell.py [--check]      at the top of the repository, once, after the kit's own port script
 
 A name turns if a file of specs/ or proofs/ declares it and it has a dash: 'lines-kept' becomes 'lines_kept', 'To-play' becomes 'ToPlay'.
-A name that would meet that of a
-function, in the src/ of a crate that has it, gets '_lem', as in the library. Names of goals stay, since rattle makes them. What turns: antt's code and comments, clauses, ghost blocks and ghost imports of src/, the texts of
-must-fail edits, and code spans of docs/ and README.md. Strings, Rust's own names, inputs and outputs stay.
+A name that would meet that of a function, in the src/ of a crate that has it, gets '_lem', as in the library. Names of goals stay, since
+rattle makes them. What turns: antt's code and comments, clauses, ghost blocks and ghost imports of src/, the texts of must-fail edits, and
+code spans of docs/ and README.md. Strings, Rust's own names, inputs and outputs stay.
 A new name that is declared or used otherwise where the old one stands is listed, and then nothing is written.
 """
 import os

@@ -1,6 +1,6 @@
 -- The shapes of a fault outside a session: pass 0, and no name unless one is given.
---   no_name       the span that stands for no name
---   plain         a fault of no line
+--   no_name           the span that stands for no name
+--   plain             a fault of no line
 --   in_line_lem       a fault of a line
 --   about_name_lem    a fault of a line for a name in it
 use Rattle.std.specs.Prelude.{ℕ}

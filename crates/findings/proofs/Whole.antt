@@ -1,6 +1,6 @@
 -- Where acts fit, the guards of the keeper never act.
 use Rattle.std.proofs.Common.{◌≡◌, ℕ, ◌+◌, ◌-◌, ◌^◌, ◌<◌, ◌≤◌, min, List, [], ◌∷◌, ◌++◌, length, Ok, Err, Result, sym, refl, ap, ◌∙◌, subst, append_assoc, append-nil, arith, length-append}
-use Rattle.std.specs.List.{AllByRecursion as All}
+use Rattle.std.specs.List.{AllByRecursion}
 use Rattle.std.proofs.lemmas.List.{length-map, length_push}
 use Rattle.std.proofs.lemmas.Bool.{lt-ltb, le-leb, and_from, cond-true}
 use Rattle.compose.specs.Acts.{Number, Part, plain, label, heading, page_reference, number_reference, contents, Act, set_word, end_of_paragraph, end_of_page}
@@ -32,7 +32,7 @@ Headed k = 1 ≤ k.level
 record Room (ls : Lists) (ps : List Part) : Type 0 where
   labels : length ls.labels + length (names_in ps) ≤ 128
   headings : length ls.contents + length (titles_in ps) ≤ 128
-  levels : All Headed (titles_in ps)
+  levels : AllByRecursion Headed (titles_in ps)
 
 -- a word's entry goes to the end, and there is room for the others
 record KeptOne (p : Part) (page : ℕ) (ls more : Lists) (ps : List Part) : Type 0 where
@@ -75,7 +75,7 @@ Paged w = Page (page_of w.spot)
 kept_same : {a b : Lists} {n k : ℕ} → a ≡ b → n ≡ k → ◌≡◌ {A = Kept} (record { lists = a; words = n }) (record { lists = b; words = k })
 kept_same e f = (λ i. record { lists = e i; words = f i })
 
-heard : (ws : List SetWord) (x : Kept) → All Paged ws → Room x.lists (parts_of ws) → x.words + length ws < 2 ^ 64 → heard_all finding tt x ws ≡ record { lists = joined x.lists (made ws); words = x.words + length ws }
+heard : (ws : List SetWord) (x : Kept) → AllByRecursion Paged ws → Room x.lists (parts_of ws) → x.words + length ws < 2 ^ 64 → heard_all finding tt x ws ≡ record { lists = joined x.lists (made ws); words = x.words + length ws }
 heard [] x p r n = kept_same (lists_same x.lists (joined x.lists no_entries) (sym (append-nil x.lists.labels)) (sym (append-nil x.lists.contents))) (omega arith)
 heard (w ∷ ws) x p r n =
     let one = kept_one w.part (page_of w.spot) x.lists (made ws) (parts_of ws) p.0 r in
@@ -83,7 +83,7 @@ heard (w ∷ ws) x p r n =
     ∙ kept_same one.value (omega arith)
 
 -- what a list of parts has room for, a front of it has
-all_front : {X : Type 0} (P : X → Type 0) (a b : List X) → All P (a ++ b) → All P a
+all_front : {X : Type 0} (P : X → Type 0) (a b : List X) → AllByRecursion P (a ++ b) → AllByRecursion P a
 all_front P [] b h = tt
 all_front P (x ∷ a) b h = (h.0, all_front P a b h.1)
 
@@ -91,7 +91,7 @@ room_front : (ls : Lists) (a b : List Part) → Room ls (a ++ b) → Room ls a
 room_front ls a b r = record {
   labels = omega (arith, r.labels, ap length (names_append a b), length-append (names_in a) (names_in b));
   headings = omega (arith, r.headings, ap length (titles_append a b), length-append (titles_in a) (titles_in b));
-  levels = all_front Headed (titles_in a) (titles_in b) (subst (All Headed) (titles_append a b) r.levels);
+  levels = all_front Headed (titles_in a) (titles_in b) (subst (AllByRecursion Headed) (titles_append a b) r.levels);
 }
 
 record Fitting (ws : List SetWord) : Type 0 where
@@ -117,17 +117,17 @@ kind_page paged (at p l c) k = elim k [ ]
 kind_page (printed h w) (on p) k = elim k [ ]
 kind_page (printed h w) (at p l c) k = k
 
-all_onto : {P : Type 0} (w : SetWord) (v : Trace P) → Paged w → All Paged (words_of v) → All Paged (words_of (onto w v))
+all_onto : {P : Type 0} (w : SetWord) (v : Trace P) → Paged w → AllByRecursion Paged (words_of v) → AllByRecursion Paged (words_of (onto w v))
 all_onto w (all ws q) h r = (h, r)
 all_onto w (upto ws q f) h r = (h, r)
 
 module _ {L Mark : Type 0} (m : Meaning L Mark) (laws : Lawful m) (s : m.Settings) (pass : ℕ) where
-  word : (w : List ℕ) (p : Part) (source : Source) (acts : List Act) (q : m.Place) (n : ℕ) (f : Spot) → ((r : m.Place) → laws.Sound s r → All Paged (words_of (trace m s pass r acts))) → (o : Outcome m.Place) → Proper (laws.Sound s) (m.front s) (m.paper s) n f o → All Paged (words_of (traced pass w p source q (λ r. trace m s pass r acts) o))
+  word : (w : List ℕ) (p : Part) (source : Source) (acts : List Act) (q : m.Place) (n : ℕ) (f : Spot) → ((r : m.Place) → laws.Sound s r → AllByRecursion Paged (words_of (trace m s pass r acts))) → (o : Outcome m.Place) → Proper (laws.Sound s) (m.front s) (m.paper s) n f o → AllByRecursion Paged (words_of (traced pass w p source q (λ r. trace m s pass r acts) o))
   word w p source acts q n f rest (refused e) good = tt
   word w p source acts q n f rest (placed t r) good =
       all_onto (record { bytes = w; part = p; spot = t }) (trace m s pass r acts) (kind_page (m.paper s) t good.0.kind) (rest r good.1)
 
-  paged_all : (acts : List Act) (q : m.Place) → laws.Sound s q → All Paged (words_of (trace m s pass q acts))
+  paged_all : (acts : List Act) (q : m.Place) → laws.Sound s q → AllByRecursion Paged (words_of (trace m s pass q acts))
   paged_all [] q h = tt
   paged_all (set_word w p source ∷ acts) q h = word w p source acts q _ _ (paged_all acts) (m.sets s q w) (laws.puts s q w h)
   paged_all (end_of_paragraph ∷ acts) q h = paged_all acts (m.paragraph_end s q) (laws.ends_paragraph s q h).1

@@ -2,8 +2,8 @@
 --   Spot            where something stands: on a page, or at a line and a column of a page too
 --   page_of         the page of a spot
 --   after           the spot right after a word of n bytes
---   _≼_             at or before, in reading order; where there are no lines, by pages
---   _≺_             strictly before, in reading order
+--   ◌≼◌             at or before, in reading order; where there are no lines, by pages
+--   ◌≺◌             strictly before, in reading order
 --   Page            a page number, 1 to 999
 --   nearest_page    the page number that is nearest to a number
 --   Paper           what the settings fix of a page: nothing, or its height and width

@@ -1,14 +1,14 @@
 -- What the line filler and the fixed form have in common.
---   place           a place from its three numbers
---   opening         line 1 of page 1, with nothing used
---   accepted        how many bytes a word has: 1 to 72, and no more than the width that it may take
---   next_line_lem       the beginning of the next line; after the last line of page 999 there is none
---   paragraph_end   the line is used up, if anything of it is used
---   page_end        the last line of the page is used up, but nothing is done at the opening place
---   or_refused      what comes of a value, or its refusal
---   put             a word right after what is used of its line: g tells the used columns, u what is used then
---   front           right after what is used; the page is kept to 1 to 999 for any place, also one of no layout
---   Sound           page 1 to 999, a line of the page, and no more of it used than there is
+--   place            a place from its three numbers
+--   opening          line 1 of page 1, with nothing used
+--   accepted         how many bytes a word has: 1 to 72, and no more than the width that it may take
+--   next_line_lem    the beginning of the next line; after the last line of page 999 there is none
+--   paragraph_end    the line is used up, if anything of it is used
+--   page_end         the last line of the page is used up, but nothing is done at the opening place
+--   or_refused       what comes of a value, or its refusal
+--   put              a word right after what is used of its line: g tells the used columns, u what is used then
+--   front            right after what is used; the page is kept to 1 to 999 for any place, also one of no layout
+--   Sound            page 1 to 999, a line of the page, and no more of it used than there is
 use Rattle.std.specs.Prelude.{◌≡◌, ℕ, ◌+◌, ◌≤◌, cond, ◌&&◌, ◌||◌, Ok, Err, Result, ◌==◌, nat_lt, refl}
 use Rattle.layout.specs.Spots.{Spot, at, Page, nearest_page}
 use Rattle.layout.specs.Meaning.{Outcome, refused, placed}

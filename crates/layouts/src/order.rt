@@ -1,8 +1,8 @@
 // What the laws give of whole runs, at each of the two layouts.
 ghost use Rattle.std.specs.Prelude.{◌≡◌, ◌*◌};
 ghost use Rattle.layout.specs.Runs.{ReadingOrder, ReadsWithin};
-ghost use Rattle.layouts.specs.Filling.{filling, Fronted as Filler-fronted};
-ghost use Rattle.layouts.specs.Forming.{forming, Fronted as Form-fronted};
+ghost use Rattle.layouts.specs.Filling.{filling, Fronted as FillerFronted};
+ghost use Rattle.layouts.specs.Forming.{forming, Fronted as FormFronted};
 
 use crate::filler::LineFiller;
 use crate::form::FixedForm;
@@ -11,7 +11,7 @@ use layout::{printed_order, reading_order};
 // The words of every accepted run of a line filler stand in reading order, apart and inside the page.
 pub fn filler_reading_order()
     ensures order { ReadingOrder filling }
-    ensures front { Filler-fronted }
+    ensures front { FillerFronted }
 {
     reading_order::<LineFiller>();
 }
@@ -28,7 +28,7 @@ pub fn filler_page(filler: &LineFiller) -> (u8, u8)
 // The words of every accepted run of a fixed form stand in reading order, apart and inside the page.
 pub fn form_reading_order()
     ensures order { ReadingOrder forming }
-    ensures front { Form-fronted }
+    ensures front { FormFronted }
 {
     reading_order::<FixedForm>();
 }

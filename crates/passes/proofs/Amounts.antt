@@ -2,7 +2,7 @@
 -- has at most so many lines and titles, each of at most so many words, so a line asks for fewer than 4000000000 words, even
 -- where it asks for contents.
 use Rattle.std.proofs.Common.{◌≡◌, ℕ, zero, suc, ◌+◌, ◌*◌, ◌≤◌, Bool, true, false, cond, List, [], ◌∷◌, length, drop, codes, sym, refl, subst, arith, length-drop}
-use Rattle.std.specs.List.{prefix_len, AllByRecursion as All}
+use Rattle.std.specs.List.{prefix_len, AllByRecursion}
 use Rattle.std.specs.Str.{bytes_eq}
 use Rattle.std.proofs.lemmas.List.{length-take-le}
 use Rattle.std.proofs.lemmas.List.Sums.{prefix_len-le-length}
@@ -48,7 +48,7 @@ abbrev pub Short : SourceLine → Type 0
 Short l = length l.bytes ≤ 60000
 
 -- the lines of a short text are so
-pub lines_short : (k n i : ℕ) (bs : List ℕ) → length bs ≤ 60000 → All Short (lines_past k n i bs)
+pub lines_short : (k n i : ℕ) (bs : List ℕ) → length bs ≤ 60000 → AllByRecursion Short (lines_past k n i bs)
 lines_short zero n i [] h = tt
 lines_short (suc k) n i [] h = tt
 lines_short (suc k) n i (b ∷ bs) h = lines_short k n (i + 1) bs (omega arith)
@@ -91,11 +91,11 @@ titles_few (l ∷ ls) =
     (cond_both (heading (kind l.bytes)) _ _ (λ (ts : List (List ItemWord)). length ts ≤ length (l ∷ ls)) (λ e. omega (arith, titles_few ls)) (λ e. omega (arith, titles_few ls)))
 
 -- and each is brief
-pub titles_brief : (ls : List SourceLine) → All Short ls → All Brief (titles (items_of ls))
+pub titles_brief : (ls : List SourceLine) → AllByRecursion Short ls → AllByRecursion Brief (titles (items_of ls))
 titles_brief [] s = tt
 titles_brief (l ∷ ls) s =
-    subst (All Brief) (sym (titled_by (kind l.bytes) l (titles (items_of ls))))
-    (cond_both (heading (kind l.bytes)) _ _ (All Brief) (λ e. (line_few true l s.0, titles_brief ls s.1)) (λ e. titles_brief ls s.1))
+    subst (AllByRecursion Brief) (sym (titled_by (kind l.bytes) l (titles (items_of ls))))
+    (cond_both (heading (kind l.bytes)) _ _ (AllByRecursion Brief) (λ e. (line_few true l s.0, titles_brief ls s.1)) (λ e. titles_brief ls s.1))
 
 -- setting words sets so many
 words_wording : (sh : Shown) (v : Manner) (ws : List ItemWord) → wording (word_acts sh v ws) ≡ length ws
@@ -103,13 +103,13 @@ words_wording sh v [] = refl
 words_wording sh v (w ∷ ws) = omega (arith, words_wording sh v ws)
 
 -- a line of the contents has two words more than its title
-contents_wording : (sh : Shown) (n : ℕ) (ts : List (List ItemWord)) (es : List ContentsLine) → All Brief ts → wording (contents_acts sh n ts es) ≤ length ts * 60002
+contents_wording : (sh : Shown) (n : ℕ) (ts : List (List ItemWord)) (es : List ContentsLine) → AllByRecursion Brief ts → wording (contents_acts sh n ts es) ≤ length ts * 60002
 contents_wording sh n [] es s = omega arith
 contents_wording sh n (t ∷ ts) [] s = omega arith
 contents_wording sh n (t ∷ ts) (e ∷ es) s =
     omega (arith, s.0, wording_append (entry_acts sh n t e) (contents_acts sh n ts es), wording_append (word_acts sh (in_contents n) t) (set_word e.page acts.contents (at_line_lem n) ∷ end_of_paragraph ∷ []), words_wording sh (in_contents n) t, contents_wording sh n ts es s.1)
 
-module _ (sh : Shown) (ts : List (List ItemWord)) (few : length ts ≤ 60000) (brief : All Brief ts) where
+module _ (sh : Shown) (ts : List (List ItemWord)) (few : length ts ≤ 60000) (brief : AllByRecursion Brief ts) where
   -- a line of text is its words
   text_wording : (k : Number) (ws : List ItemWord) → wording (text_acts sh k ws) ≡ length ws
   text_wording k [] = refl
@@ -129,7 +129,7 @@ module _ (sh : Shown) (ts : List (List ItemWord)) (few : length ts ≤ 60000) (b
   kind_wording Text l k s = omega (arith, text_wording k (item_words false l (line_words l.bytes)), line_few false l s)
 
   -- and what short lines do
-  pub told_wording : (ls : List SourceLine) (k : Number) → All Short ls → wording (told sh ts k (items_of ls)) ≤ length ls * 4000000000
+  pub told_wording : (ls : List SourceLine) (k : Number) → AllByRecursion Short ls → wording (told sh ts k (items_of ls)) ≤ length ls * 4000000000
   told_wording [] k s = omega arith
   told_wording (l ∷ ls) k s =
       let m = number_after_lem k (line_item l) in

@@ -1,6 +1,6 @@
 -- The script of a text that keeps the rules fits into a record, and its labels have names apart.
 use Rattle.std.proofs.Common.{◌≡◌, ℕ, ◌≤◌, List, length, sym, ap, ◌∙◌, subst, arith}
-use Rattle.std.specs.List.{AllByRecursion as All}
+use Rattle.std.specs.List.{AllByRecursion}
 use Rattle.compose.specs.Acts.{Number}
 use Rattle.findings.specs.Fitting.{label_names, apart}
 use Rattle.manuscript.specs.Standing.{marks}
@@ -38,6 +38,6 @@ scripts_fit s old t k =
     record {
       labels = omega (arith, k.few_labels, labels_count (marks t), ap length (script_names s old t));
       headings = omega (arith, k.few_headings, ap length numbers, told_titling (lines t) before_any);
-      levels = subst (All (λ (k : Number). 1 ≤ k.level)) (sym numbers) (told_levels (lines t) before_any);
+      levels = subst (AllByRecursion (λ (k : Number). 1 ≤ k.level)) (sym numbers) (told_levels (lines t) before_any);
       words = omega (arith, told_wording sh ts few (titles_brief (lines t) short) (lines t) before_any short);
     }

@@ -1,6 +1,6 @@
 -- The headings of a script are those of its items, which are the lines that are headings, and none is of level 0.
 use Rattle.std.proofs.Common.{◌≡◌, ℕ, ◌+◌, ◌≤◌, Bool, true, false, cond, List, [], ◌∷◌, ◌++◌, length, Some, None, codes, Option, sym, refl, ap, ◌∙◌, subst, arith}
-use Rattle.std.specs.List.{AllByRecursion as All}
+use Rattle.std.specs.List.{AllByRecursion}
 use Rattle.std.specs.Str.{bytes_eq}
 use Rattle.std.proofs.ByRecursion.{All-append}
 use Rattle.std.proofs.lemmas.List.{append-nil}
@@ -39,7 +39,7 @@ titled_word k (Some m) ks = titled_by k m.mark m.name (length m.prefix) (length 
 
 -- no number is of level 0
 abbrev Levels : List acts.Number → Type 0
-Levels ks = All (λ (k : acts.Number). 1 ≤ k.level) ks
+Levels ks = AllByRecursion (λ (k : acts.Number). 1 ≤ k.level) ks
 
 -- one number more where a line is a heading
 one_more : (b : Bool) (k : acts.Number) (ks : List acts.Number) → length (cond b (k ∷ []) [] ++ ks) ≡ cond b 1 0 + length ks

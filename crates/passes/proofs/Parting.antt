@@ -1,6 +1,6 @@
 -- What lists of acts hold comes apart with them, and the contents hold neither a label nor a heading.
 use Rattle.std.proofs.Common.{◌≡◌, ℕ, ◌+◌, List, [], ◌∷◌, ◌++◌, length, refl, ap, ◌∙◌, length-append}
-use Rattle.std.specs.List.{AllByRecursion as All}
+use Rattle.std.specs.List.{AllByRecursion}
 use Rattle.std.proofs.ByRecursion.{All-append}
 use Rattle.compose.specs.Acts.{Part, Act}
 use Rattle.compose.specs.Acts as acts
@@ -24,7 +24,7 @@ wording_append a b = ap length (parts_append a b) ∙ length-append (parts a) (p
 
 -- parts of nothing but the contents
 abbrev pub Copies : List Part → Type 0
-Copies ps = All (λ p. p ≡ acts.contents) ps
+Copies ps = AllByRecursion (λ p. p ≡ acts.contents) ps
 
 -- two such lists of acts in a row are one
 copies_append : (a b : List Act) → Copies (parts a) → Copies (parts b) → Copies (parts (a ++ b))

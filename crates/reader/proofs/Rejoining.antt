@@ -1,6 +1,6 @@
 -- The lines of a text give it back.
 use Rattle.std.proofs.Common.{◌≡◌, ℕ, zero, suc, ◌+◌, ◌<◌, ◌≤◌, ◌⊎◌, List, [], ◌∷◌, ◌++◌, length, get_or, take, drop, sym, refl, ap, ◌∙◌, subst, inl, inr, ⊎_elim, append_assoc, arith, length-drop, take-append-drop, length-take-le, drop-drop}
-use Rattle.std.specs.List.{prefix_len, AllByRecursion as All}
+use Rattle.std.specs.List.{prefix_len, AllByRecursion}
 use Rattle.std.proofs.lemmas.List.{drop_all, drop_more, take_all}
 use Rattle.std.proofs.lemmas.List.Sums.{prefix_len-le-length}
 use Rattle.std.proofs.lemmas.Bool.{cases_lt, eqb-true, not-false}
@@ -11,10 +11,10 @@ use Rattle.reader.proofs.Laws.{lines_at}
 
 -- the lines from a place of a text on
 abbrev From : List ℕ → ℕ → ℕ → Type 0
-From t n i = Rejoined (lines_from n i (drop i t)) (drop i t) × All (LineStands t) (lines_from n i (drop i t))
+From t n i = Rejoined (lines_from n i (drop i t)) (drop i t) × AllByRecursion (LineStands t) (lines_from n i (drop i t))
 
 ended : (t : List ℕ) (n i : ℕ) → length t ≤ i → From t n i
-ended t n i h = subst (λ x. Rejoined (lines_from n i x) x × All (LineStands t) (lines_from n i x)) (sym (drop_all i t h)) (inl refl, tt)
+ended t n i h = subst (λ x. Rejoined (lines_from n i x) x × AllByRecursion (LineStands t) (lines_from n i x)) (sym (drop_all i t h)) (inl refl, tt)
 
 -- a line that has its newline, and a last one that lacks it
 newline : (t : List ℕ) (i m : ℕ) → m ≡ prefix_len in_line (drop i t) → i + m < length t → take m (drop i t) ++ (10 ∷ drop (i + m + 1) t) ≡ drop i t
@@ -47,7 +47,7 @@ step t n i h rest =
     inr (ap (λ z. take m x ++ (10 ∷ unlines (lines_from (n + 1) (i + m + 1) z))) none ∙ ap (λ z. z ++ 10 ∷ []) (take_all m x (omega (arith, length-drop i t)))))
     (cases_lt (i + m) (length t)) in
     let stands : LineStands t (record { number = n; offset = i; bytes = take m x }) = (all_front in_line x m refl, ap (λ k. take k x) long) in
-    subst (λ l. Rejoined l x × All (LineStands t) l) (sym (lines_at t n i h)) (joined, (stands, rest.1))
+    subst (λ l. Rejoined l x × AllByRecursion (LineStands t) l) (sym (lines_at t n i h)) (joined, (stands, rest.1))
 
 from : (k : ℕ) (t : List ℕ) (n i : ℕ) → length t ≤ i + k → From t n i
 from zero t n i h = ended t n i (omega arith)

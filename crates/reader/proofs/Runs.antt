@@ -1,6 +1,6 @@
 -- The words of a line are its longest runs of bytes without a space.
 use Rattle.std.proofs.Common.{◌≡◌, ℕ, zero, suc, ◌+◌, ◌<◌, ◌≤◌, true, not, ◌⊎◌, List, ◌∷◌, length, get_or, take, drop, sym, refl, ap, ◌∙◌, subst, inl, inr, ⊎_elim, add-zero, arith, length-drop}
-use Rattle.std.specs.List.{prefix_len, AllByRecursion as All}
+use Rattle.std.specs.List.{prefix_len, AllByRecursion}
 use Rattle.std.proofs.lemmas.List.{drop_all}
 use Rattle.std.proofs.lemmas.Bool.{cases_lt, eqb-true, eq-eqb, not-false, both_ways}
 use Rattle.reader.specs.Words.{space, in_word, SourceWord, words}
@@ -18,7 +18,7 @@ Edge l at = (at ≡ 0) ⊎ (at < length l → get_or l at 0 ≡ 32)
 
 -- the law for the words from a place on
 abbrev RunsFrom : ℕ → List ℕ → ℕ → List SourceWord → Type 0
-RunsFrom i l at ws = All (LongestRun i l) ws × ((k : ℕ) → at ≤ k → k < length l → in_word (get_or l k 0) ≡ true → Within (i + k) ws)
+RunsFrom i l at ws = AllByRecursion (LongestRun i l) ws × ((k : ℕ) → at ≤ k → k < length l → in_word (get_or l k 0) ≡ true → Within (i + k) ws)
 
 module _ (i : ℕ) (l : List ℕ) (at s n : ℕ) (spaces : s ≡ prefix_len space (drop at l)) (run : n ≡ prefix_len in_word (drop (at + s) l)) where
   gap : (k : ℕ) → at ≤ k → k < at + s → space (get_or l k 0) ≡ true
@@ -84,5 +84,5 @@ runs_from (suc fuel) i l at h edge =
 pub words_law : (i : ℕ) (l : List ℕ) → WordsLaw i l
 words_law i l =
     let r = runs_from (length l) i l 0 (omega arith) (inl refl) in
-    subst (λ x. All (LongestRun i l) (words x l) × ((k : ℕ) → k < length l → in_word (get_or l k 0) ≡ true → Within (i + k) (words x l))) (add-zero i)
+    subst (λ x. AllByRecursion (LongestRun i l) (words x l) × ((k : ℕ) → k < length l → in_word (get_or l k 0) ≡ true → Within (i + k) (words x l))) (add-zero i)
     (r.0, λ k b c. r.1 k (omega arith) b c)

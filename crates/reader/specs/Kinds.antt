@@ -1,9 +1,9 @@
 -- The kinds of line, and where the words of a line begin.
---   kind          the kind that the first character decides
---   hash          the byte of '#'
---   level         how many '#' a line begins with
---   prose_start_lem   where the words begin: after the '#' of a heading, at the front of text, at the end of any other line
---   line_words    the words of a line: those of a title or of text
+--   kind               the kind that the first character decides
+--   hash               the byte of '#'
+--   level              how many '#' a line begins with
+--   prose_start_lem    where the words begin: after the '#' of a heading, at the front of text, at the end of any other line
+--   line_words         the words of a line: those of a title or of text
 use Rattle.std.specs.Prelude.{◌≡◌, ℕ, Bool, cond, List, [], ◌∷◌, length, drop, codes, ◌==◌, refl}
 use Rattle.std.specs.List.{prefix_len}
 use Rattle.reader.specs.Words.{SourceWord, words}

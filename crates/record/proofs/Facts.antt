@@ -1,6 +1,6 @@
 -- What the types of entries and tables say of their plain values.
 use Rattle.std.proofs.Common.{◌≡◌, ◌≤◌, true, List, [], ◌∷◌, map, length, arith}
-use Rattle.std.specs.List.{AllByRecursion as All}
+use Rattle.std.specs.List.{AllByRecursion}
 use Rattle.std.proofs.lemmas.List.{length-map}
 use Rattle.std.proofs.lemmas.Bool.{and_from, le-leb}
 use Rattle.record.specs.Positions.{label_ok, heading_ok}
@@ -16,11 +16,11 @@ label_entry_ok e = and_from _ _ e.name.right (and_from _ _ e.number.sound (and_f
 pub contents_entry_ok : (e : ContentsEntry) → heading_ok (position_of e) ≡ true
 contents_entry_ok e = and_from _ _ (le-leb 1 _ e.headed) (and_from _ _ e.number.sound (and_from _ _ (le-leb 1 _ e.paged.0) (le-leb _ 999 e.paged.1)))
 
-pub labels_ok : (es : List LabelEntry) → All (λ l. label_ok l ≡ true) (map label_of es)
+pub labels_ok : (es : List LabelEntry) → AllByRecursion (λ l. label_ok l ≡ true) (map label_of es)
 labels_ok [] = tt
 labels_ok (e ∷ es) = (label_entry_ok e, labels_ok es)
 
-pub contents_ok : (es : List ContentsEntry) → All (λ p. heading_ok p ≡ true) (map position_of es)
+pub contents_ok : (es : List ContentsEntry) → AllByRecursion (λ p. heading_ok p ≡ true) (map position_of es)
 contents_ok [] = tt
 contents_ok (e ∷ es) = (contents_entry_ok e, contents_ok es)
 

@@ -2,7 +2,7 @@
 use Rattle.std.proofs.Common.{◌≡◌, ℕ, ◌+◌, ◌-◌, ◌<◌, ◌≤◌, true, false, ◌&&◌, eqb, ltb, leb, List, [], ◌∷◌, length, take, drop, replicate, sym, refl, ap, ◌∙◌, ⊎_elim, arith, take_at, drop_at}
 use Rattle.std.proofs.lemmas.List.{drop-replicate}
 use Rattle.std.proofs.lemmas.Bool.{cond_both, and_parts, ltb-true, leb-true, eqb-true, cond-true, cond-false, cases_Bool, false≢true}
-use Rattle.std.specs.List.{prefix_len, AllByRecursion as All}
+use Rattle.std.specs.List.{prefix_len, AllByRecursion}
 use Rattle.std.proofs.lemmas.Bool.Decides.{nat_tests}
 use Rattle.buffers.specs.Written.{written}
 use Rattle.buffers.proofs.Writing.{length_written}
@@ -50,7 +50,7 @@ module _ (bs o : List ℕ) (n : ℕ) (few : length bs ≤ 16) (end : n ≡ 0 + l
 name_byte_small : (b : ℕ) → name_byte b ≡ true → b < 256
 name_byte_small b e = grind (arith, nat_tests)
 
-all_small : (bs : List ℕ) → prefix_len name_byte bs ≡ length bs → All (λ b. b < 256) bs
+all_small : (bs : List ℕ) → prefix_len name_byte bs ≡ length bs → AllByRecursion (λ b. b < 256) bs
 all_small [] e = tt
 all_small (b ∷ bs) e =
     ⊎_elim
@@ -60,10 +60,10 @@ all_small (b ∷ bs) e =
     (λ f. absurd (let s : prefix_len name_byte (b ∷ bs) ≡ 0 = cond-false _ _ _ f in omega arith))
     (cases_Bool (name_byte b))
 
-pub name_bytes_small : (bs : List ℕ) → name_ok bs ≡ true → All (λ b. b < 256) bs
+pub name_bytes_small : (bs : List ℕ) → name_ok bs ≡ true → AllByRecursion (λ b. b < 256) bs
 unfolding name_ok
 name_bytes_small bs =
-    let P : Naming → Type 0 = λ v. is_right v ≡ true → All (λ b. b < 256) bs in
+    let P : Naming → Type 0 = λ v. is_right v ≡ true → AllByRecursion (λ b. b < 256) bs in
     cond_both (ltb 0 (length bs) && leb (length bs) 16) _ WrongLength P
     (λ _. cond_both (eqb (prefix_len name_byte bs) (length bs)) Right WrongCharacter P (λ t _. all_small bs (eqb-true _ _ t)) (λ _ e. absurd (false≢true e)))
     (λ _ e. absurd (false≢true e))

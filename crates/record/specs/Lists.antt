@@ -1,15 +1,15 @@
 -- What a table means.
---   Lists            the labels and the contents, in order
---   no_entries       two empty lists
---   lists_of         the lists of a table, as plain values
---   with_label       the lists with one more label at the end
---   with_heading     the lists with one more contents entry at the end
---   put_position     the lists with the i-th label at another position
---   Changes          what a call that may refuse answers and leaves: where P holds the lists are changed, else they stay
---   AddsLabel,   AddsHeading    one more entry, where there is room for it
---   AddsNewLabel     one more label, where its name is new and there is room for it
---   Fills            another position for the i-th label, where there is one and the page is one
---   PutsLabel,   PutsHeading    one more entry, where there is room for it and the position is right
+--   Lists                     the labels and the contents, in order
+--   no_entries                two empty lists
+--   lists_of                  the lists of a table, as plain values
+--   with_label                the lists with one more label at the end
+--   with_heading              the lists with one more contents entry at the end
+--   put_position              the lists with the i-th label at another position
+--   Changes                   what a call that may refuse answers and leaves: where P holds the lists are changed, else they stay
+--   AddsLabel, AddsHeading    one more entry, where there is room for it
+--   AddsNewLabel              one more label, where its name is new and there is room for it
+--   Fills                     another position for the i-th label, where there is one and the page is one
+--   PutsLabel, PutsHeading    one more entry, where there is room for it and the position is right
 use Rattle.std.specs.Prelude.{◌≡◌, ℕ, ◌<◌, ◌≤◌, Bool, List, [], ◌∷◌, ◌++◌, map, length, None, vec_items, MatchBool}
 use Rattle.record.specs.Positions.{Position, Label}
 use Rattle.record.specs.Labels.{place_of, with_position}

@@ -1,6 +1,6 @@
 -- Digits and bytes undo each other.
 use Rattle.std.proofs.Common.{◌≡◌, ℕ, ◌+◌, ◌-◌, ◌*◌, ◌/◌, ◌%◌, ◌<◌, ◌&&◌, ltb, leb, List, [], ◌∷◌, ◌++◌, Some, None, Option, sym, refl, ap, ◌∙◌, subst, ⊎_elim, div-add-mod', arith}
-use Rattle.std.specs.List.{AllByRecursion as All}
+use Rattle.std.specs.List.{AllByRecursion}
 use Rattle.std.proofs.lemmas.Bool.{cond-true, cond-false, cases_Bool, and_parts, leb-true, le-leb, lt-leb, lt-ltb, le-ltb, ltb-true, ltb-false, and_from, and_right}
 use Rattle.recordlines.specs.Hex.{hex, hex_pair, hex_digit_lem, digit_value, both, pair_value_lem, after, then, bytes_of}
 
@@ -79,16 +79,16 @@ then_some None r ys e = absurd (let z : ◌≡◌ {A = ℕ} 0 1 = cc in omega ar
 then_some (Some b) r ys e = let s = after_some (b ∷ []) r ys e in (b, s.0, refl, s.1, s.2)
 
 -- digits that spell bytes are the digits of these
-pub bytes_spelled : (ds f : List ℕ) → bytes_of ds ≡ Some f → (hex f ≡ ds) × All Byte f
-bytes_spelled [] f e = let n : f ≡ [] = cc in (ap hex n, subst (All Byte) (sym n) tt)
+pub bytes_spelled : (ds f : List ℕ) → bytes_of ds ≡ Some f → (hex f ≡ ds) × AllByRecursion Byte f
+bytes_spelled [] f e = let n : f ≡ [] = cc in (ap hex n, subst (AllByRecursion Byte) (sym n) tt)
 bytes_spelled (a ∷ []) f e = absurd (let z : ◌≡◌ {A = ℕ} 0 1 = cc in omega arith)
 bytes_spelled (a ∷ b ∷ ds) f e =
     let s = then_some (pair_value_lem a b) (bytes_of ds) f e in
     let p = value_pair a b s.0 s.2 in
     let ih = bytes_spelled ds s.1 s.3 in
-    (ap hex s.4 ∙ (λ i. p.1 i ++ ih.0 i), subst (All Byte) (sym s.4) (p.0, ih.1))
+    (ap hex s.4 ∙ (λ i. p.1 i ++ ih.0 i), subst (AllByRecursion Byte) (sym s.4) (p.0, ih.1))
 
 -- the digits of bytes spell them
-pub spells_bytes : (f : List ℕ) → All Byte f → bytes_of (hex f) ≡ Some f
+pub spells_bytes : (f : List ℕ) → AllByRecursion Byte f → bytes_of (hex f) ≡ Some f
 spells_bytes [] h = refl
 spells_bytes (b ∷ f) h = λ i. then (pair_valued b h.0 i) (spells_bytes f h.1 i)

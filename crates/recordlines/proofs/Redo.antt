@@ -1,6 +1,6 @@
 -- What saving writes loads as the same lists.
 use Rattle.std.proofs.Common.{◌≡◌, ℕ, suc, ◌+◌, ◌/◌, ◌%◌, ◌<◌, ◌≤◌, true, false, eqb, ltb, leb, List, [], ◌∷◌, ◌++◌, length, Some, sym, refl, ap, ◌∙◌, subst, append_assoc, append-nil, add-zero, div-add-mod', arith, length-append, take_at, drop_at}
-use Rattle.std.specs.List.{flat_map, AllByRecursion as All}
+use Rattle.std.specs.List.{flat_map, AllByRecursion}
 use Rattle.std.proofs.lemmas.Bool.{cond-true, cond_both, and_parts, and_from, eq-eqb, ne_eqb, le-leb, leb-true}
 use Rattle.names.specs.Name.{naming}
 use Rattle.names.specs.declared.Naming.{Naming}
@@ -29,7 +29,7 @@ digit_inside v =
     let big : 48 ≤ hex_digit_lem v = cond_both (ltb v 10) (48 + v) (55 + v) P (λ _. omega arith) (λ _. omega arith) in
     ne_eqb _ 10 (λ e. omega arith)
 
-hex_inside : (f : List ℕ) → All (λ d. eqb d 10 ≡ false) (hex f)
+hex_inside : (f : List ℕ) → AllByRecursion (λ d. eqb d 10 ≡ false) (hex f)
 hex_inside [] = tt
 hex_inside (b ∷ f) = (digit_inside (b / 16), (digit_inside (b % 16), hex_inside f))
 
@@ -38,7 +38,7 @@ reading : Lists → ℕ → List ℕ → Outcome
 reading ls n bs = read ls n (split bs).whole (split bs).rest
 
 abbrev FrameLike : List ℕ → Type 0
-FrameLike f = All Byte f × (length f ≤ 24)
+FrameLike f = AllByRecursion Byte f × (length f ≤ 24)
 
 one_line : (ls : Lists) (n : ℕ) (f rest : List ℕ) → FrameLike f → reading ls n (line f ++ rest) ≡ go_on (step ls f) n (λ now. reading now (n + 1) rest) (closed ls n (split rest).whole (split rest).rest)
 unfolding reading line_step
@@ -51,7 +51,7 @@ one_line ls n f rest h =
 position_forth : (p : Position) → position_from (position_bytes_lem p) ≡ Some p
 position_forth p = λ i. Some (record { level = p.level; counters = p.counters; page = div-add-mod' p.page 256 i })
 
-position_like : (p : Position) → position_ok p ≡ true → All Byte (position_bytes_lem p)
+position_like : (p : Position) → position_ok p ≡ true → AllByRecursion Byte (position_bytes_lem p)
 position_like p e =
     let q = and_parts (number_ok p.level p.counters) (is_page p.page) e in
     let l = level_bound _ _ q.0 in
@@ -59,7 +59,7 @@ position_like p e =
     let top = leb-true p.page 999 (and_parts (leb 1 p.page) _ q.1).1 in
     (omega arith, (omega (arith, c.0), (omega (arith, c.1), (omega (arith, c.2), (omega arith, (omega arith, tt))))))
 
-all_both : (xs ys : List ℕ) → All Byte xs → All Byte ys → All Byte (xs ++ ys)
+all_both : (xs ys : List ℕ) → AllByRecursion Byte xs → AllByRecursion Byte ys → AllByRecursion Byte (xs ++ ys)
 all_both [] ys h k = k
 all_both (x ∷ xs) ys h k = (h.0, all_both xs ys h.1 k)
 
@@ -98,7 +98,7 @@ goes_on ls now n f more rest h e =
 abbrev labelled : List Label → Lists
 labelled xs = record { labels = xs; contents = [] }
 
-labels_forth : (todo done : List Label) (n : ℕ) (rest : List ℕ) → All (λ l. label_ok l ≡ true) todo → distinct (done ++ todo) ≡ true → length (done ++ todo) ≤ 128 → reading (labelled done) n (flat_map label_line todo ++ rest) ≡ reading (labelled (done ++ todo)) (n + length todo) rest
+labels_forth : (todo done : List Label) (n : ℕ) (rest : List ℕ) → AllByRecursion (λ l. label_ok l ≡ true) todo → distinct (done ++ todo) ≡ true → length (done ++ todo) ≤ 128 → reading (labelled done) n (flat_map label_line todo ++ rest) ≡ reading (labelled (done ++ todo)) (n + length todo) rest
 labels_forth [] done n rest ok apart few = λ i. reading (labelled (sym (append-nil done) i)) (sym (add-zero n) i) rest
 labels_forth (l ∷ todo) done n rest ok apart few =
     let long = length-append done (l ∷ todo) in
@@ -119,7 +119,7 @@ contents_steps ls p fits = ap (contents_step ls) (position_forth p) ∙ cond-tru
 abbrev with_contents : List Label → List Position → Lists
 with_contents ls ps = record { labels = ls; contents = ps }
 
-contents_forth : (ls : List Label) (todo done : List Position) (n : ℕ) (rest : List ℕ) → All (λ p. heading_ok p ≡ true) todo → length (done ++ todo) ≤ 128 → reading (with_contents ls done) n (flat_map contents_line todo ++ rest) ≡ reading (with_contents ls (done ++ todo)) (n + length todo) rest
+contents_forth : (ls : List Label) (todo done : List Position) (n : ℕ) (rest : List ℕ) → AllByRecursion (λ p. heading_ok p ≡ true) todo → length (done ++ todo) ≤ 128 → reading (with_contents ls done) n (flat_map contents_line todo ++ rest) ≡ reading (with_contents ls (done ++ todo)) (n + length todo) rest
 contents_forth ls [] done n rest ok few = λ i. reading (with_contents ls (sym (append-nil done) i)) (sym (add-zero n) i) rest
 contents_forth ls (p ∷ todo) done n rest ok few =
     let now = with_contents ls done in
@@ -138,7 +138,7 @@ end_forth ls n a b =
     ap (reading ls n) (sym (append-nil (line (end_frame ls)))) ∙ one_line ls n (end_frame ls) [] like
     ∙ ap (λ s. go_on s n (λ next. reading next (n + 1) []) (accepted ls)) told
 
-pub loads_again_lem : (ls : Lists) → All (λ l. label_ok l ≡ true) ls.labels → All (λ p. heading_ok p ≡ true) ls.contents → distinct ls.labels ≡ true → length ls.labels ≤ 128 → length ls.contents ≤ 128 → loaded (lines ls) ≡ accepted ls
+pub loads_again_lem : (ls : Lists) → AllByRecursion (λ l. label_ok l ≡ true) ls.labels → AllByRecursion (λ p. heading_ok p ≡ true) ls.contents → distinct ls.labels ≡ true → length ls.labels ≤ 128 → length ls.contents ≤ 128 → loaded (lines ls) ≡ accepted ls
 unfolding reading
 loads_again_lem ls labels contents apart a b =
     labels_forth ls.labels [] 1 (flat_map contents_line ls.contents ++ line (end_frame ls)) labels apart a

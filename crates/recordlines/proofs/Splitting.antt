@@ -1,7 +1,7 @@
 -- The first line of a text, and a text put together again from its lines.
 use Rattle.std.proofs.Common.{◌≡◌, ℕ, suc, ◌+◌, ◌-◌, ◌<◌, ◌≤◌, Bool, false, cond, not, eqb, List, [], ◌∷◌, ◌++◌, length, take, drop, sym, refl, ap, ◌∙◌, subst, ⊎_elim, add-one, one-add, arith, length-drop}
 use native.Mathlib.Nat.{sub-zero}
-use Rattle.std.specs.List.{prefix_len, flat_map, AllByRecursion as All}
+use Rattle.std.specs.List.{prefix_len, flat_map, AllByRecursion}
 use Rattle.std.proofs.lemmas.List.{take_rest}
 use Rattle.std.proofs.lemmas.Bool.{cases_Bool, eqb-true}
 use Rattle.faults.specs.Faults.{in_line_lem}
@@ -81,7 +81,7 @@ rejoined (b ∷ bs) =
     (cases_Bool (eqb b 10))
 
 -- digits up to a newline are a line
-pub split_line : (ds rest : List ℕ) → All (λ d. eqb d 10 ≡ false) ds → split (ds ++ (10 ∷ rest)) ≡ record { whole = ds ∷ (split rest).whole; rest = (split rest).rest }
+pub split_line : (ds rest : List ℕ) → AllByRecursion (λ d. eqb d 10 ≡ false) ds → split (ds ++ (10 ∷ rest)) ≡ record { whole = ds ∷ (split rest).whole; rest = (split rest).rest }
 split_line [] rest h = refl
 split_line (d ∷ ds) rest h =
     ap (λ c. grown c d (split (ds ++ (10 ∷ rest)))) h.0 ∙ ap (λ t. longer d t.whole t.rest) (split_line ds rest h.1)

@@ -1,6 +1,6 @@
 -- Lines that load are the lines that saving writes.
 use Rattle.std.proofs.Common.{◌≡◌, ℕ, zero, suc, ◌+◌, ◌*◌, ◌/◌, ◌%◌, ◌<◌, Bool, true, false, cond, ◌&&◌, eqb, leb, ◌⊎◌, List, [], ◌∷◌, ◌++◌, length, take, drop, Some, None, Option, sym, refl, ap, ◌∙◌, subst, inl, inr, ⊎_elim, append_assoc, append-nil, arith, length-drop, take-append-drop, length-take}
-use Rattle.std.specs.List.{flat_map, AllByRecursion as All}
+use Rattle.std.specs.List.{flat_map, AllByRecursion}
 use Rattle.std.proofs.lemmas.List.{nil_from_length}
 use Rattle.std.proofs.lemmas.Bool.{and_parts, eqb-true}
 use Rattle.faults.specs.declared.cause.Cause.{Cause}
@@ -28,12 +28,12 @@ passed : (b : Bool) (s : Step) (c : Cause) (now : Lists) → cond b s (wrong c) 
 passed true s c now e = (refl, e)
 passed false s c now e = absurd (let z : ◌≡◌ {A = ℕ} 0 1 = cc in omega arith)
 
-all_drop : (n : ℕ) (xs : List ℕ) → All Byte xs → All Byte (drop n xs)
+all_drop : (n : ℕ) (xs : List ℕ) → AllByRecursion Byte xs → AllByRecursion Byte (drop n xs)
 all_drop zero xs h = h
 all_drop (suc n) [] h = h
 all_drop (suc n) (x ∷ xs) h = all_drop n xs h.1
 
-position_back : (bs : List ℕ) (p : Position) → All Byte bs → position_from bs ≡ Some p → position_bytes_lem p ≡ bs
+position_back : (bs : List ℕ) (p : Position) → AllByRecursion Byte bs → position_from bs ≡ Some p → position_bytes_lem p ≡ bs
 position_back [] p h e = absurd (let z : ◌≡◌ {A = ℕ} 0 1 = cc in omega arith)
 position_back (a ∷ []) p h e = absurd (let z : ◌≡◌ {A = ℕ} 0 1 = cc in omega arith)
 position_back (a ∷ b ∷ []) p h e = absurd (let z : ◌≡◌ {A = ℕ} 0 1 = cc in omega arith)
@@ -64,7 +64,7 @@ contents_more ls p =
     ap (λ x. flat_map label_line ls.labels ++ x) (joined_append contents_line ls.contents (p ∷ []) ∙ ap (λ x. flat_map contents_line ls.contents ++ x) (append-nil (contents_line p)))
     ∙ sym (append_assoc (flat_map label_line ls.labels) (flat_map contents_line ls.contents) (contents_line p))
 
-label_back : (ls now : Lists) (n : ℕ) (rest : List ℕ) (o : Option Position) → position_from (drop n rest) ≡ o → All Byte rest → label_step ls (take n rest) o ≡ keeps now → so_far now ≡ so_far ls ++ line (76 ∷ n ∷ rest)
+label_back : (ls now : Lists) (n : ℕ) (rest : List ℕ) (o : Option Position) → position_from (drop n rest) ≡ o → AllByRecursion Byte rest → label_step ls (take n rest) o ≡ keeps now → so_far now ≡ so_far ls ++ line (76 ∷ n ∷ rest)
 label_back ls now n rest None q h e = absurd (let z : ◌≡◌ {A = ℕ} 0 1 = cc in omega arith)
 label_back ls now n rest (Some p) q h e =
     let l : Label = record { name = take n rest; position = p } in
@@ -79,7 +79,7 @@ label_back ls now n rest (Some p) q h e =
     let frame : label_frame l ≡ 76 ∷ n ∷ rest = λ i. 76 ∷ count i ∷ (ap (λ x. take n rest ++ x) back ∙ take-append-drop n rest) i in
     ap so_far (sym made) ∙ label_more ls l none ∙ ap (λ f. so_far ls ++ line f) frame
 
-contents_back : (ls now : Lists) (rest : List ℕ) (o : Option Position) → position_from rest ≡ o → All Byte rest → contents_step ls o ≡ keeps now → so_far now ≡ so_far ls ++ line (67 ∷ rest)
+contents_back : (ls now : Lists) (rest : List ℕ) (o : Option Position) → position_from rest ≡ o → AllByRecursion Byte rest → contents_step ls o ≡ keeps now → so_far now ≡ so_far ls ++ line (67 ∷ rest)
 contents_back ls now rest None q h e = absurd (let z : ◌≡◌ {A = ℕ} 0 1 = cc in omega arith)
 contents_back ls now rest (Some p) q h e =
     let b = passed (heading_fits ls p) _ FrameInvalid now e in
@@ -121,7 +121,7 @@ ToldBy ls f (keeps now) = so_far now ≡ so_far ls ++ line f
 ToldBy ls f ends = f ≡ end_frame ls
 ToldBy ls f (wrong c) = Unit {0}
 
-label_told_by : (ls : Lists) (rest : List ℕ) (r : Step) → All Byte rest → step ls (76 ∷ rest) ≡ r → ToldBy ls (76 ∷ rest) r
+label_told_by : (ls : Lists) (rest : List ℕ) (r : Step) → AllByRecursion Byte rest → step ls (76 ∷ rest) ≡ r → ToldBy ls (76 ∷ rest) r
 unfolding ToldBy
 label_told_by ls [] (keeps now) h e = absurd (let z : ◌≡◌ {A = ℕ} 0 1 = cc in omega arith)
 label_told_by ls [] ends h e = absurd (let z : ◌≡◌ {A = ℕ} 0 1 = cc in omega arith)
@@ -130,7 +130,7 @@ label_told_by ls (n ∷ rest) (keeps now) h e = label_back ls now n rest (positi
 label_told_by ls (n ∷ rest) ends h e = absurd (label_no_end ls (take n rest) (position_from (drop n rest)) e)
 label_told_by ls (n ∷ rest) (wrong c) h e = tt
 
-contents_told_by : (ls : Lists) (rest : List ℕ) (r : Step) → All Byte rest → step ls (67 ∷ rest) ≡ r → ToldBy ls (67 ∷ rest) r
+contents_told_by : (ls : Lists) (rest : List ℕ) (r : Step) → AllByRecursion Byte rest → step ls (67 ∷ rest) ≡ r → ToldBy ls (67 ∷ rest) r
 unfolding ToldBy
 contents_told_by ls rest (keeps now) h e = contents_back ls now rest (position_from rest) refl h e
 contents_told_by ls rest ends h e = absurd (contents_no_end ls (position_from rest) e)
@@ -148,7 +148,7 @@ malformed_told_by ls f (keeps now) e = absurd (let z : ◌≡◌ {A = ℕ} 0 1 =
 malformed_told_by ls f ends e = absurd (let z : ◌≡◌ {A = ℕ} 0 1 = cc in omega arith)
 malformed_told_by ls f (wrong c) e = tt
 
-frame_told_by : (ls : Lists) (f : List ℕ) (r : Step) → All Byte f → step ls f ≡ r → ToldBy ls f r
+frame_told_by : (ls : Lists) (f : List ℕ) (r : Step) → AllByRecursion Byte f → step ls f ≡ r → ToldBy ls f r
 frame_told_by ls [] r h e = malformed_told_by ls [] r e
 frame_told_by ls (k ∷ rest) r h e =
     let first : (m : ℕ) → eqb k m ≡ true → step ls (m ∷ rest) ≡ r = λ m t. ap (λ x. step ls (x ∷ rest)) (sym (eqb-true k m t)) ∙ e in

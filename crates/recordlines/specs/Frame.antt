@@ -1,10 +1,10 @@
 -- The lines of a record: one frame a line, in hexadecimal digits, and a newline.
 --   position_bytes_lem    level, three counters, page high, page low
---   label_frame       4C, name length, name, position
---   contents_frame    43, position
---   end_frame         45, label count, contents count
---   line              the line of a frame
---   lines             the lines of a record: labels, contents, end
+--   label_frame           4C, name length, name, position
+--   contents_frame        43, position
+--   end_frame             45, label count, contents count
+--   line                  the line of a frame
+--   lines                 the lines of a record: labels, contents, end
 use Rattle.std.specs.Prelude.{◌≡◌, ℕ, ◌/◌, ◌%◌, List, [], ◌∷◌, ◌++◌, length, codes, refl}
 use Rattle.std.specs.List.{flat_map}
 use Rattle.record.specs.Positions.{Position, Label}

@@ -1,10 +1,10 @@
 -- Bytes as pairs of upper-case hexadecimal digits.
---   hex_digit_lem      the digit of a value below 16
---   hex            the digits of bytes, two for each
---   digit_value    the value of a digit, if it is one
---   pair_value_lem     the byte that two digits spell
---   after          bytes in front of what the rest gives, if it gives any
---   bytes_of       the bytes that digits spell, if they are whole pairs
+--   hex_digit_lem     the digit of a value below 16
+--   hex               the digits of bytes, two for each
+--   digit_value       the value of a digit, if it is one
+--   pair_value_lem    the byte that two digits spell
+--   after             bytes in front of what the rest gives, if it gives any
+--   bytes_of          the bytes that digits spell, if they are whole pairs
 use Rattle.std.specs.Prelude.{◌≡◌, ℕ, ◌+◌, ◌-◌, ◌*◌, ◌/◌, ◌%◌, cond, ◌&&◌, List, [], ◌∷◌, ◌++◌, Some, None, codes, Option, nat_le, nat_lt, refl}
 use Rattle.std.specs.List.{flat_map}
 

@@ -1,10 +1,10 @@
 -- What setting words in a layout, with a keeper, comes to.
---   cause_of_lem       the cause of a fault that a layout's refusal makes
---   refusal_fault  that fault, with where the word comes from and the pass
---   Setup          how far a layout and a keeper have come
---   heard          a word after the layout's outcome
---   plays          an act
---   typesetting    the meaning of the compositor
+--   cause_of_lem     the cause of a fault that a layout's refusal makes
+--   refusal_fault    that fault, with where the word comes from and the pass
+--   Setup            how far a layout and a keeper have come
+--   heard            a word after the layout's outcome
+--   plays            an act
+--   typesetting      the meaning of the compositor
 use Rattle.std.specs.Prelude.{◌∷◌, ℕ}
 use Rattle.compose.specs.Acts.{Act, set_word, end_of_paragraph, end_of_page}
 use Rattle.compose.specs.Playing.{Play, Playing, played}

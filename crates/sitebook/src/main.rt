@@ -76,7 +76,7 @@ fn run(rt: &HostRuntime) -> Result<(), Failure> {
     }
     let words: &[&str] = &words;
     match words {
-        [_, "check"] => check_book(rt),
+        [_, "check", ..] => check_book(rt),
         [_, "settle", rest @ ..] => settle_book(rt, rest),
         _ => Err(Failure::Usage),
     }

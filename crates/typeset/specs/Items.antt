@@ -1,14 +1,14 @@
 -- A manuscript as items, one for each line. Nothing after this sees bytes of lines.
---   ItemWord      a word with its mark, if it has one, and where a fault says that it comes from
---   at_line_lem       where a word without a name comes from
---   mark_in       the mark that the parts of a word tell; a word that is not well formed has none
---   item_word     a word of a line, in a title or outside one
---   item_words    words of a line
---   Item          text, a heading with its title, contents, the end of a page, or a line that is passed over
---   item_of       a line of a kind
---   items_of      lines
---   items         a text
---   titles        the titles of the headings, in order
+--   ItemWord       a word with its mark, if it has one, and where a fault says that it comes from
+--   at_line_lem    where a word without a name comes from
+--   mark_in        the mark that the parts of a word tell; a word that is not well formed has none
+--   item_word      a word of a line, in a title or outside one
+--   item_words     words of a line
+--   Item           text, a heading with its title, contents, the end of a page, or a line that is passed over
+--   item_of        a line of a kind
+--   items_of       lines
+--   items          a text
+--   titles         the titles of the headings, in order
 use Rattle.std.specs.Prelude.{◌≡◌, ℕ, Bool, true, false, cond, List, [], ◌∷◌, Some, None, Ok, Err, codes, Option, refl}
 use Rattle.std.specs.Str.{bytes_eq}
 use Rattle.compose.specs.declared.acts.Source.{Source}

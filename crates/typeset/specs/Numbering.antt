@@ -1,9 +1,9 @@
 -- How the numbers of headings go on.
---   before_any      the number before any heading
---   risen           the counters after a heading of a level: its counter is one more, the later ones are 0
---   counted         the number of a heading of a level, after another number
+--   before_any          the number before any heading
+--   risen               the counters after a heading of a level: its counter is one more, the later ones are 0
+--   counted             the number of a heading of a level, after another number
 --   number_after_lem    the number after an item: that of the heading, where it is one
---   Room            n more headings take no counter past 128
+--   Room                n more headings take no counter past 128
 use Rattle.std.specs.Prelude.{◌≡◌, ℕ, ◌+◌, ◌≤◌, cond, ◌==◌, refl}
 use Rattle.compose.specs.Acts.{Number}
 use Rattle.numerals.specs.declared.counters.Counters.{Counters}

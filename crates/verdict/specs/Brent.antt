@@ -1,14 +1,14 @@
 -- Brent's rule: what is said of a run, and what a pass does to the numbers that it is said from.
---   numbers       a progress of these numbers
---   start         no pass yet; x(0) is the anchor
---   takes         whether another pass is taken in: open, and fewer than 255 passes
---   ruled         the progress that the pass after `passes` leads to, by the first of the four cases that holds
---   advanced      the same, or the progress as it is where it takes in no pass
---   at_anchor_lem     whether the current record is the anchor's
---   kind_number   the number of what is said
---   period_of     the period that is named
---   since_of      the pass that it is named from
---   verdict_of    all that is said
+--   numbers          a progress of these numbers
+--   start            no pass yet; x(0) is the anchor
+--   takes            whether another pass is taken in: open, and fewer than 255 passes
+--   ruled            the progress that the pass after `passes` leads to, by the first of the four cases that holds
+--   advanced         the same, or the progress as it is where it takes in no pass
+--   at_anchor_lem    whether the current record is the anchor's
+--   kind_number      the number of what is said
+--   period_of        the period that is named
+--   since_of         the pass that it is named from
+--   verdict_of       all that is said
 use Rattle.std.specs.Prelude.{ℕ, ◌+◌, ◌-◌, ◌*◌, Bool, false, cond, ◌==◌, nat_lt}
 use Rattle.verdict.specs.declared.outcome.Outcome.{Outcome}
 use Rattle.verdict.specs.declared.outcome.Outcome.TheVariants.{Open, Settled, Oscillates}

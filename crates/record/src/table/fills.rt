@@ -5,8 +5,8 @@ ghost use Rattle.std.specs.Vec.{with_item};
 ghost use Rattle.record.specs.Naming.{name_bytes};
 ghost use Rattle.record.specs.Lists.{lists_of, put_position, AddsLabel, Fills, PutsLabel, PutsHeading};
 ghost use Rattle.record.specs.Meaning.{placed};
-ghost use Rattle.record.specs.contracts.table.Table.{the_row as table-row};
-ghost use Rattle.record.specs.contracts.entry.LabelEntry.{the_row as label-row};
+ghost use Rattle.record.specs.contracts.table.Table.{the_row as table_row};
+ghost use Rattle.record.specs.contracts.entry.LabelEntry.{the_row as label_row};
 
 use super::Table;
 use crate::entry::{ContentsEntry, LabelEntry};
@@ -17,7 +17,7 @@ impl Table {
     // Lends the i-th label entry.
     fn entry(&mut self, i: usize) -> &mut LabelEntry
         requires { i < vec_len self.old.labels }
-        ensures* writes_back { sem 𝓛 (follows table-row label-row self.entry.ghost_name result.ghost_name (λ w. record { labels = with_item self.old.labels i w; contents = self.old.contents; roomy = self.old.roomy; few = self.old.few })) }
+        ensures* writes_back { sem 𝓛 (follows table_row label_row self.entry.ghost_name result.ghost_name (λ w. record { labels = with_item self.old.labels i w; contents = self.old.contents; roomy = self.old.roomy; few = self.old.few })) }
         ensures facts { result.now ≡ slice_index_or self.old.labels.items i result.now }
     {
         &mut self.labels[i]
