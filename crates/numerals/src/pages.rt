@@ -38,7 +38,8 @@ fn write_numeral(style: NumeralStyle, page: u16, out: &mut [u8]) -> usize
 
 // The numeral table loses nothing, and twelve bytes hold every page's numeral.
 pub fn numeral_laws() -> u8
-    ensures { NumeralLaws }
+    ensures value { result ≡ 0 }
+    ensures laws { NumeralLaws }
 {
     0
 }

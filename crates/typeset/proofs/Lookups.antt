@@ -1,5 +1,5 @@
--- Texts of words: a looked_up entry, and how long a number's text is.
-use Rattle.std.proofs.Common.{◌≡◌, ℕ, zero, suc, ◌<◌, ◌≤◌, true, List, [], ◌∷◌, map, length, get_or, take, Some, sym, refl, ap, ◌∙◌, zero-add, arith, length-append, take_at}
+-- Texts of words: a looked-up entry, and how long a number's text is.
+use Rattle.std.proofs.Common.{◌≡◌, ℕ, zero, suc, ◌<◌, ◌≤◌, true, List, [], ◌∷◌, map, length, get_or, take, Some, sym, ap, ◌∙◌, zero-add, arith, length-append, take_at}
 use Rattle.numerals.specs.Heading.{number_text}
 use Rattle.numerals.specs.Sound.{number_ok}
 use Rattle.numerals.specs.declared.counters.Counters.{Counters}
@@ -11,10 +11,6 @@ use Rattle.record.specs.Meaning.{label_of}
 use Rattle.record.specs.declared.entry.LabelEntry.{LabelEntry}
 use Rattle.typeset.specs.Shown.{position_at}
 use Rattle.typeset.specs.Texts.{PutsText}
-
-pub length_map : {X Y : Type 0} (f : X → Y) (xs : List X) → length (map f xs) ≡ length xs
-length_map f [] = refl
-length_map f (x ∷ xs) = ap suc (length_map f xs)
 
 pub position_there : (xs : List LabelEntry) (i : ℕ) (e : LabelEntry) → i < length xs → e ≡ get_or xs i e → position_at (map label_of xs) i ≡ Some (label_of e).position
 position_there [] i e h q = let no : ⊥ = omega arith in elim no [ ]
