@@ -3,21 +3,22 @@ ghost use Rattle.std.specs.Prelude.{◌≡◌};
 ghost use Rattle.faults.specs.Faults.{plain, in_line_lem, about_name_lem};
 
 use crate::cause::Cause;
+use std::error::Error;
 use std::fmt;
 
-// A part of a manuscript: where it begins, from 0, and how many bytes it has; 0 and 0 for none.
+// A part of a manuscript: where it begins, from 0, and how many bytes it has.
 #[derive(Clone, Copy, PartialEq, Eq, Debug)]
 pub struct Span {
     pub offset: usize,
     pub length: usize,
 }
 
-// `line` counts from 1 and is 0 where no line is meant; `name` is the label's name in the manuscript.
+// `line` counts from 1; `name` is where the label's name stands in the manuscript; `pass` is how many passes were made.
 #[derive(Clone, Copy, PartialEq, Eq, Debug)]
 pub struct Fault {
     pub cause: Cause,
-    pub line: usize,
-    pub name: Span,
+    pub line: Option<usize>,
+    pub name: Option<Span>,
     pub pass: u8,
 }
 
@@ -26,21 +27,22 @@ impl Fault {
     pub fn plain(cause: Cause) -> Fault
         ensures { result ≡ plain cause }
     {
-        Fault::in_line(cause, 0)
+        Fault {
+            cause,
+            line: None,
+            name: None,
+            pass: 0,
+        }
     }
 
     // A refusal of a line.
     pub fn in_line(cause: Cause, line: usize) -> Fault
         ensures { result ≡ in_line_lem cause line }
     {
-        Fault::about_name(
-            cause,
-            line,
-            Span {
-                offset: 0,
-                length: 0,
-            },
-        )
+        Fault {
+            line: Some(line),
+            ..Fault::plain(cause)
+        }
     }
 
     // A refusal of a line for a name in it.
@@ -48,10 +50,8 @@ impl Fault {
         ensures { result ≡ about_name_lem cause line name }
     {
         Fault {
-            cause,
-            line,
-            name,
-            pass: 0,
+            name: Some(name),
+            ..Fault::in_line(cause, line)
         }
     }
 }
@@ -60,10 +60,11 @@ impl fmt::Display for Fault {
     fn fmt<W: fmt::Write>(&self, f: &mut fmt::Formatter<W>) -> fmt::Result {
         let number = self.cause.number();
         let cause = self.cause;
-        let line = self.line;
-        if line == 0 {
-            return write!(f, "refusal {number}: {cause}");
+        match self.line {
+            None => write!(f, "refusal {number}: {cause}"),
+            Some(line) => write!(f, "refusal {number} in line {line}: {cause}"),
         }
-        write!(f, "refusal {number} in line {line}: {cause}")
     }
 }
+
+impl Error for Fault {}

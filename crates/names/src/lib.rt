@@ -5,14 +5,26 @@ ghost use Rattle.std.specs.Prelude.{◌≡◌};
 ghost use Rattle.names.specs.Name.{name_byte, naming};
 
 use runs::{Class, all_of};
+use std::error::Error;
+use std::fmt;
 
-// What bytes are, tried as a name.
+// Why bytes are no name.
 #[derive(Clone, Copy, PartialEq, Eq, Debug)]
-pub enum Naming {
-    Right,
+pub enum NameError {
     WrongLength,
     WrongCharacter,
 }
+
+impl fmt::Display for NameError {
+    fn fmt<W: fmt::Write>(&self, f: &mut fmt::Formatter<W>) -> fmt::Result {
+        f.write_str(match self {
+            NameError::WrongLength => "a name has 1 to 16 characters",
+            NameError::WrongCharacter => "a name has only letters, digits and hyphens",
+        })
+    }
+}
+
+impl Error for NameError {}
 
 // A letter, a digit or a hyphen.
 struct NameByte;
@@ -25,19 +37,18 @@ impl Class for NameByte {
     }
 }
 
-// Whether bytes are a name, or else what is wrong with them: the length goes first.
-pub fn named(bytes: &[u8]) -> Naming
+// Bytes that are a name, or else what is wrong with them: the length goes first.
+pub fn named(bytes: &[u8]) -> Result<(), NameError>
     ensures { result ≡ naming bytes.now }
 {
     if bytes.is_empty() {
-        return Naming::WrongLength;
+        return Err(NameError::WrongLength);
     }
     if bytes.len() > 16 {
-        return Naming::WrongLength;
+        return Err(NameError::WrongLength);
     }
-    if all_of::<NameByte>(bytes) {
-        Naming::Right
-    } else {
-        Naming::WrongCharacter
+    if !all_of::<NameByte>(bytes) {
+        return Err(NameError::WrongCharacter);
     }
+    Ok(())
 }
