@@ -20,7 +20,7 @@ use Rattle.manuscript.specs.Checking.{unless, resolved, checked}
 use Rattle.manuscript.specs.Labelled.{is_label, definitions, named, Labelled}
 use Rattle.manuscript.specs.Rules.{asked, words_kept, line_kept, lines_kept, headings, wants, wanted, labels, Kept, Accepts}
 use Rattle.manuscript.specs.declared.counts.Counts.{Counts}
-use Rattle.manuscript.proofs.Labelling.{occurs, Once, labels_of, labels_append, definitions_occur, occurs_some, occurs_none, occurs_push, adds_none, entered_keeps, Keeps, refused, same_ok, Adds, noted_adds, line_adds, lines_add, accepted, labelled}
+use Rattle.manuscript.proofs.Labelling.{occurs, Once, labels_of, labels_append, definitions_occur, occurs_some, occurs_none, occurs_push, adds_none, entered_keeps, Keeps, passed_by, Adds, noted_adds, line_adds, lines_add, accepted, labelled}
 use Rattle.manuscript.proofs.Keeping.{line_holds, lines_hold}
 
 occurs_append : (n : List ℕ) (xs ys : List (List ℕ)) → occurs n (xs ++ ys) ≡ occurs n xs + occurs n ys
@@ -73,7 +73,7 @@ marked_done Page l span name s r = (s, refl)
 marked_done Number l span name s r = (s, refl)
 
 noted_done : (l : SourceLine) (w : SourceWord) (p : Parts) (s : Seen) → is_ok p ≡ true → Room s (marking l w p) → Done (noted l w p s)
-noted_done l w (Err e) s ok r = let z : ◌≡◌ {A = ℕ} 0 1 = cc in absurd (omega arith)
+noted_done l w (Err e) s ok r = absurd (cc)
 noted_done l w (Ok None) s ok r = (s, refl)
 noted_done l w (Ok (Some m)) s ok r = marked_done m.mark l.number _ m.name s r
 
@@ -199,10 +199,6 @@ at_most true n e = omega arith
 at_most false n e = omega arith
 
 -- what an accepted check counts
-short_ok : (b : Bool) (f : Fault) (r : Result Counts Fault) (c : Counts) → Ok c ≡ cond b (Err f) r → (b ≡ false) × (Ok c ≡ r)
-short_ok true f r c e = refused (sym e)
-short_ok false f r c e = (refl, e)
-
 pub accepts : (t : List ℕ) (r : Result Counts Fault) → r ≡ checked t → Accepts t r
 accepts t (Ok c) e =
     let ok : is_ok (checked t) ≡ true = ap is_ok (sym e) in
@@ -211,9 +207,9 @@ accepts t (Ok c) e =
     let names : a.0.labels ≡ labels_of (marks t) = (lines_add (lines t) nothing a.0 a.1).grown in
     let many : length a.0.labels ≡ labels (marks t) = ap length names ∙ labels_count (marks t) in
     let room : length a.0.labels ≤ 128 = held.1.room (omega arith) in
-    let short = short_ok (ltb 60000 (length t)) _ _ c e in
+    let short = passed_by (ltb 60000 (length t)) _ _ c (sym e) in
     let all-counts : Counts = record { lines = length (lines t); labels = length a.0.labels; headings = a.0.headings } in
-    let counts : c ≡ all-counts = same_ok (short.1 ∙ ap (λ r. then r (λ s. resolved t s)) a.1 ∙ ap (λ o. unless o all-counts) a.2) in (
+    let counts : c ≡ all-counts = let same = sym short.1 ∙ ap (λ r. then r (λ s. resolved t s)) a.1 ∙ ap (λ o. unless o all-counts) a.2 in cc in (
       record {
         short = ltb-false 60000 (length t) short.0;
         formed = held.0;

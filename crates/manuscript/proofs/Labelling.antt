@@ -56,11 +56,11 @@ more true f h = omega arith
 more false f h = omega (arith, f h)
 
 pub occurs_some : (n : List ℕ) (l : List (List ℕ)) → among n l ≡ true → 1 ≤ occurs n l
-occurs_some n [] h = let z : ◌≡◌ {A = ℕ} 0 1 = cc in absurd (omega arith)
+occurs_some n [] h = absurd (cc)
 occurs_some n (m ∷ ms) h = more (bytes_eq m n) (λ e. occurs_some n ms e) h
 
 none_more : (b r : Bool) (k : ℕ) → (r ≡ false → k ≡ 0) → (b || r) ≡ false → cond b 1 0 + k ≡ 0
-none_more true r k f h = let z : ◌≡◌ {A = ℕ} 0 1 = cc in absurd (omega arith)
+none_more true r k f h = cc
 none_more false r k f h = omega (arith, f h)
 
 pub occurs_none : (n : List ℕ) (l : List (List ℕ)) → among n l ≡ false → occurs n l ≡ 0
@@ -98,44 +98,38 @@ adds_both {s} {s'} {s''} {xs} {ys} a b =
       apart = λ o. b.apart (a.apart o);
     }
 
-pub refused : {E X A : Type 0} {e : E} {x : X} → ◌≡◌ {A = Result X E} (Err e) (Ok x) → A
-refused h = let z : ◌≡◌ {A = ℕ} 0 1 = cc in absurd (omega arith)
-
-pub same_ok : {E X : Type 0} {x y : X} → ◌≡◌ {A = Result X E} (Ok x) (Ok y) → x ≡ y
-same_ok h = cc
-
 pub then_ok : {X Y E : Type 0} (r : Result X E) (f : X → Result Y E) (y : Y) → then r f ≡ Ok y → (x : X) × (r ≡ Ok x) × (f x ≡ Ok y)
 then_ok (Ok x) f y h = (x, refl, h)
-then_ok (Err e) f y h = refused h
+then_ok (Err e) f y h = absurd (cc)
 
 -- a test that let an answer through was false, or true
 pub passed_by : {X E : Type 0} (b : Bool) (e : E) (r : Result X E) (x : X) → cond b (Err e) r ≡ Ok x → (b ≡ false) × (r ≡ Ok x)
-passed_by true e r x h = refused h
+passed_by true e r x h = absurd (cc)
 passed_by false e r x h = (refl, h)
 
-pub let_through : {X E : Type 0} (b : Bool) (e : E) (r : Result X E) (x : X) → cond b r (Err e) ≡ Ok x → r ≡ Ok x
-let_through true e r x h = h
-let_through false e r x h = refused h
+pub through : {X E : Type 0} (b : Bool) (e : E) (r : Result X E) (x : X) → cond b r (Err e) ≡ Ok x → (b ≡ true) × (r ≡ Ok x)
+through true e r x h = (refl, h)
+through false e r x h = absurd (cc)
 
 defined_adds : (l : ℕ) (span : Span) (name : List ℕ) (s s' : Seen) → defined l span name s ≡ Ok s' → Adds s (record { mark = Label; name = name; line = l; span = span } ∷ []) s'
 defined_adds l span name s s' h =
     let new = passed_by (among name s.labels) _ _ s' h in
-    let room = let_through (ltb (length s.labels) 128) _ _ s' new.1 in
-    let same : s.labels ++ name ∷ [] ≡ s'.labels = ap (λ (x : Seen). x.labels) (same_ok room) in
+    let room = (through (ltb (length s.labels) 128) _ _ s' new.1).1 in
+    let same : s.labels ++ name ∷ [] ≡ s'.labels = cc in
     record { grown = sym same; apart = λ o. subst Once same (once_push s.labels name new.0 o) }
 
 marked_adds : (k : Mark) (l : ℕ) (span : Span) (name : List ℕ) (s s' : Seen) → marked_by k l span name s ≡ Ok s' → Adds s (record { mark = k; name = name; line = l; span = span } ∷ []) s'
 marked_adds Label l span name s s' h = defined_adds l span name s s' h
-marked_adds Page l span name s s' h = let a = adds_none s s' (ap (λ (x : Seen). x.labels) (sym (same_ok h))) in record { grown = a.grown; apart = a.apart }
-marked_adds Number l span name s s' h = let a = adds_none s s' (ap (λ (x : Seen). x.labels) (sym (same_ok h))) in record { grown = a.grown; apart = a.apart }
+marked_adds Page l span name s s' h = let a = adds_none s s' (cc) in record { grown = a.grown; apart = a.apart }
+marked_adds Number l span name s s' h = let a = adds_none s s' (cc) in record { grown = a.grown; apart = a.apart }
 
 pub noted_adds : (l : SourceLine) (w : SourceWord) (p : Parts) (s s' : Seen) → noted l w p s ≡ Ok s' → Adds s (marking l w p) s'
-noted_adds l w (Err e) s s' h = refused h
-noted_adds l w (Ok None) s s' h = adds_none s s' (ap (λ (x : Seen). x.labels) (sym (same_ok h)))
+noted_adds l w (Err e) s s' h = absurd (cc)
+noted_adds l w (Ok None) s s' h = adds_none s s' (cc)
 noted_adds l w (Ok (Some m)) s s' h = marked_adds m.mark l.number _ m.name s s' h
 
 pub words_add : (title : Bool) (l : SourceLine) (ws : List SourceWord) (s s' : Seen) → scan_words title l ws s ≡ Ok s' → Adds s (word_marks title l ws) s'
-words_add title l [] s s' h = adds_none s s' (ap (λ (x : Seen). x.labels) (sym (same_ok h)))
+words_add title l [] s s' h = adds_none s s' (cc)
 words_add title l (w ∷ ws) s s' h =
     let r = then_ok (noted l w (parts title w.bytes) s) (λ x. scan_words title l ws x) s' h in
     adds_both (noted_adds l w (parts title w.bytes) s r.0 r.1) (words_add title l ws r.0 s' r.2)
@@ -158,11 +152,11 @@ entered_keeps Text l s = refl
 
 pub line_adds : (l : SourceLine) (s s' : Seen) → scan_line l s ≡ Ok s' → Adds s (line_marks l) s'
 line_adds l s s' h =
-    let r = then_ok (entered (kind l.bytes) l s) (λ x. scan_words (is_title l.bytes) l (line_words l.bytes) x) s' (let_through _ _ _ s' h) in
+    let r = then_ok (entered (kind l.bytes) l s) (λ x. scan_words (is_title l.bytes) l (line_words l.bytes) x) s' (through _ _ _ s' h).1 in
     adds_both (adds_none s r.0 (subst (Keeps s) r.1 (entered_keeps (kind l.bytes) l s))) (words_add (is_title l.bytes) l (line_words l.bytes) r.0 s' r.2)
 
 pub lines_add : (ls : List SourceLine) (s s' : Seen) → scan_lines ls s ≡ Ok s' → Adds s (text_marks ls) s'
-lines_add [] s s' h = adds_none s s' (ap (λ (x : Seen). x.labels) (sym (same_ok h)))
+lines_add [] s s' h = adds_none s s' (cc)
 lines_add (l ∷ ls) s s' h =
     let r = then_ok (scan_line l s) (λ x. scan_lines ls x) s' h in
     adds_both (line_adds l s r.0 r.1) (lines_add ls r.0 s' r.2)
@@ -170,21 +164,21 @@ lines_add (l ∷ ls) s s' h =
 -- a text that the check accepts: what its scan found, and no dangling reference
 unless_ok : (o : Option Fault) (c : Counts) → is_ok (unless o c) ≡ true → o ≡ None
 unless_ok None c h = refl
-unless_ok (Some f) c h = let z : ◌≡◌ {A = ℕ} 0 1 = cc in absurd (omega arith)
+unless_ok (Some f) c h = cc
 
 scanned : (t : List ℕ) (r : Result Seen Fault) → is_ok (then r (λ s. resolved t s)) ≡ true → (s : Seen) × (r ≡ Ok s) × (dangling s.labels (marks t) ≡ None)
 scanned t (Ok s) h = (s, refl, unless_ok (dangling s.labels (marks t)) _ h)
-scanned t (Err e) h = let z : ◌≡◌ {A = ℕ} 0 1 = cc in absurd (omega arith)
+scanned t (Err e) h = absurd (cc)
 
 short : (b : Bool) (e : Fault) (r : Result Counts Fault) → is_ok (cond b (Err e) r) ≡ true → is_ok r ≡ true
-short true e r h = let z : ◌≡◌ {A = ℕ} 0 1 = cc in absurd (omega arith)
+short true e r h = cc
 short false e r h = h
 
 pub accepted : (t : List ℕ) → is_ok (checked t) ≡ true → (s : Seen) × (scan_lines (lines t) nothing ≡ Ok s) × (dangling s.labels (marks t) ≡ None)
 accepted t h = scanned t (scan_lines (lines t) nothing) (short (ltb 60000 (length t)) _ _ h)
 
 none_cond : {X : Type 0} (b : Bool) (x : X) (o : Option X) → cond b (Some x) o ≡ None → (b ≡ false) × (o ≡ None)
-none_cond true x o h = let z : ◌≡◌ {A = ℕ} 0 1 = cc in absurd (omega arith)
+none_cond true x o h = absurd (cc)
 none_cond false x o h = (refl, h)
 
 label_or_met : (k : Mark) (known : Bool) → unmet_by k known ≡ false → (is_label k ≡ true) ⊎ (known ≡ true)

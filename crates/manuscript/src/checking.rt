@@ -5,12 +5,11 @@ ghost use Rattle.manuscript.specs.Rules.{Accepts};
 
 use crate::counts::Counts;
 use crate::labels::Labels;
-use crate::references::meet_text;
-use crate::scan::scan_text;
 use crate::tally::Tally;
 use faults::{Cause, Fault};
 
 // The counts of a manuscript, or its first fault in the order of the tests. It accepts exactly the texts that keep the rules.
+#[tactic(auto, using(crate::proofs::Completing::accepts))]
 pub fn check(bytes: &[u8]) -> Result<Counts, Fault>
     ensures value { result ≡ checked bytes.now }
     ensures rules { Accepts bytes.now result }
@@ -28,10 +27,10 @@ fn run_tests(bytes: &[u8]) -> Result<Counts, Fault>
     let mut tally = Tally {
         headings: 0,
         contents: false,
-        labels: Labels::new(bytes),
+        labels: Labels::new(),
     };
-    let lines = scan_text(bytes, &mut tally)?;
-    meet_text(bytes, &tally.labels)?;
+    let lines = tally.scan_text(bytes)?;
+    tally.labels.meet_text(bytes)?;
     let labels = tally.labels.count();
     Ok(Counts {
         lines,

@@ -1,5 +1,5 @@
 // What a manuscript has of each.
-#[derive(Clone, Copy, PartialEq, Debug)]
+#[derive(Clone, Copy, PartialEq, Eq, Debug)]
 pub struct Counts {
     pub lines: usize,
     pub labels: usize,

@@ -1,11 +1,9 @@
 // The labels of a manuscript so far: their names, in order, as parts of the text.
-ghost use Rattle.std.specs.Prelude.{◌≤◌};
+use arrayvec::ArrayVec;
 
 pub mod table;
 
 #[derive(Drop)]
 pub struct Labels<'a> {
-    names: [&'a [u8]; 128],
-    count: usize,
-    ghost few: { count ≤ 128 },
+    names: ArrayVec<&'a [u8], 128>,
 }

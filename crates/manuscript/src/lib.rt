@@ -5,8 +5,7 @@ pub use bound::Manuscript;
 pub use bound::binding::bind;
 pub use checking::check;
 pub use counts::Counts;
-pub use labels::table::same_bytes;
-pub use scan::{holds_title, span_of};
+pub use scan::{holds_title, name_span_of, span_of};
 
 mod bound;
 mod checking;

@@ -1,5 +1,5 @@
 // The tests of a manuscript in their order, line by line and word by word. One function for each definition of specs/Scanning.antt.
-ghost use Rattle.std.specs.Prelude.{◌≡◌, ℕ, ◌+◌, ◌^◌, ◌<◌, ◌≤◌, true, false, length, IfOk};
+ghost use Rattle.std.specs.Prelude.{◌≡◌, ◌+◌, ◌^◌, ◌<◌, length, IfOk};
 ghost use Rattle.marks.specs.Values.{value_of};
 ghost use Rattle.reader.specs.Kinds.{kind, level, line_words};
 ghost use Rattle.reader.specs.Lines.{lines};
@@ -10,28 +10,28 @@ ghost use Rattle.manuscript.specs.Standing.{name_span, is_title};
 ghost use Rattle.manuscript.specs.Values.{seen, after};
 ghost use Rattle.marks.specs.Parts.{parts};
 
-use crate::labels::table::same_bytes;
 use crate::tally::Tally;
 use faults::{Cause, Fault, Span};
 use marks::{Mark, Marked, parse_word};
-use reader::{Kind, Line, Reader, Word, kind_of, level_of, next_word, prose_start};
+use reader::{
+    Kind, Line, LineWord, Reader, Word, Words, kind_of, level_of, next_word, prose_start,
+};
 use runs::{Class, all_of};
 
 // A byte that a line may have.
-struct Allowed;
+pub struct Allowed;
 
 impl Class for Allowed {
     ghost test = { allowed };
 
     fn has(b: u8) -> bool {
-        32 <= b && b <= 126
+        (32..=126).contains(&b)
     }
 }
 
 // Where the name of a marked word stands in the text.
 pub fn span_of(line: Line, word: Word, marked: Marked) -> Span
-    requires prefix_bound { line.offset + word.offset + length marked.prefix.now < 2 ^ 32 }
-    requires name_len_bound { length marked.name.now < 2 ^ 64 }
+    requires { line.offset + word.offset + length marked.prefix.now + 3 < 2 ^ 64 }
     ensures { result ≡ name_span (line_of line.entry) (word_of word.entry) (value_of marked.entry) }
 {
     Span {
@@ -40,50 +40,11 @@ pub fn span_of(line: Line, word: Word, marked: Marked) -> Span
     }
 }
 
-// A label more, unless its name is taken or the table is full.
-fn define<'a>(line: usize, span: Span, name: &'a [u8], tally: &mut Tally<'a>) -> Result<(), Fault>
-    ensures { after result tally.new ≡ defined line span name.now (seen tally.old) }
+// The same for a word in its line.
+pub fn name_span_of(word: LineWord, marked: Marked) -> Span
+    ensures { result ≡ name_span (line_of word.entry.line) (word_of word.entry.word) (value_of marked.entry) }
 {
-    if tally.labels.contains(name) {
-        return Err(Fault::about_name(Cause::LabelRepeated, line, span));
-    }
-    if !tally.labels.push(name) {
-        return Err(Fault::about_name(Cause::TooManyLabels, line, span));
-    }
-    Ok(())
-}
-
-// A word more: only a label leaves something in the tally.
-fn note_word<'a>(
-    title: bool,
-    line: Line<'a>,
-    word: Word<'a>,
-    tally: &mut Tally<'a>,
-) -> Result<(), Fault>
-    requires { line.offset + word.offset ≤ 60000 }
-    ensures { after result tally.new ≡ noted (line_of line.entry) (word_of word.entry) (parts title word.entry.bytes.now) (seen tally.old) }
-{
-    match parse_word(title, word.bytes) {
-        Err(cause) => Err(Fault::in_line(cause, line.number)),
-        Ok(None) => Ok(()),
-        Ok(Some(marked)) => match marked.mark {
-            Mark::Label => define(line.number, span_of(line, word, marked), marked.name, tally),
-            Mark::Page | Mark::Number => Ok(()),
-        },
-    }
-}
-
-// The words of a line, up to the first that is refused.
-fn note_words<'a>(title: bool, line: Line<'a>, tally: &mut Tally<'a>) -> Result<(), Fault>
-    requires { line.offset + length line.bytes.now ≤ 60000 }
-    ensures { after result tally.new ≡ scan_words title (line_of line.entry) (line_words line.entry.bytes.now) (seen tally.old) }
-{
-    let mut at = prose_start(line.bytes);
-    while let Some(word) = next_word(line.bytes, at) {
-        note_word(title, line, word, tally)?;
-        at = word.offset + word.bytes.len();
-    }
-    Ok(())
+    span_of(word.line, word.word, marked)
 }
 
 // Whether a line that begins with '#' is a heading: one to three of them, a space, and a title.
@@ -91,88 +52,117 @@ fn is_titled(line: &[u8]) -> bool
     ensures { result ≡ titled line.now }
 {
     let level = level_of(line);
-    if level > 3 {
-        return false;
-    }
-    if level == line.len() {
-        return false;
-    }
-    if line[level] != b' ' {
-        return false;
-    }
-    next_word(line, prose_start(line)).is_some()
-}
-
-fn enter_heading<'a>(line: Line<'a>, tally: &mut Tally<'a>) -> Result<(), Fault>
-    ensures { after result tally.new ≡ entered Heading (line_of line.entry) (seen tally.old) }
-{
-    if !is_titled(line.bytes) {
-        return Err(Fault::in_line(Cause::HeadingMalformed, line.number));
-    }
-    if tally.headings >= 128 {
-        return Err(Fault::in_line(Cause::TooManyHeadings, line.number));
-    }
-    tally.headings += 1;
-    Ok(())
-}
-
-fn enter_directive<'a>(line: Line<'a>, tally: &mut Tally<'a>) -> Result<(), Fault>
-    ensures { after result tally.new ≡ entered Directive (line_of line.entry) (seen tally.old) }
-{
-    if same_bytes(line.bytes, b"!contents") {
-        if tally.contents {
-            return Err(Fault::in_line(Cause::SecondContents, line.number));
-        }
-        tally.contents = true;
-        return Ok(());
-    }
-    if same_bytes(line.bytes, b"!page") {
-        return Ok(());
-    }
-    Err(Fault::in_line(Cause::DirectiveUnknown, line.number))
-}
-
-// What the kind of a line asks of it before its words.
-fn enter_line<'a>(line: Line<'a>, tally: &mut Tally<'a>) -> Result<(), Fault>
-    ensures { after result tally.new ≡ entered (kind line.entry.bytes.now) (line_of line.entry) (seen tally.old) }
-{
-    match kind_of(line.bytes) {
-        Kind::Heading => enter_heading(line, tally),
-        Kind::Directive => enter_directive(line, tally),
-        Kind::Remark | Kind::Text => Ok(()),
-    }
+    level <= 3 && line.get(level) == Some(&b' ') && next_word(line, prose_start(line)).is_some()
 }
 
 // Whether the words of a line are a title's.
 pub fn holds_title(line: &[u8]) -> bool
     ensures { result ≡ is_title line.now }
 {
-    match kind_of(line) {
-        Kind::Heading => true,
-        Kind::Directive | Kind::Remark | Kind::Text => false,
-    }
+    kind_of(line) == Kind::Heading
 }
 
-fn note_line<'a>(line: Line<'a>, tally: &mut Tally<'a>) -> Result<(), Fault>
-    requires { line.offset + length line.bytes.now ≤ 60000 }
-    ensures { after result tally.new ≡ scan_line (line_of line.entry) (seen tally.old) }
-{
-    if !all_of::<Allowed>(line.bytes) {
-        return Err(Fault::in_line(Cause::ByteNotAllowed, line.number));
+impl<'a> Tally<'a> {
+    // A label more, unless its name is taken or the table is full.
+    fn define(&mut self, word: LineWord<'a>, label: Marked<'a>) -> Result<(), Fault>
+        ensures { after result self.new ≡ defined word.entry.line.number (name_span (line_of word.entry.line) (word_of word.entry.word) (value_of label.entry)) label.entry.name.now (seen self.old) }
+    {
+        let line = word.line.number;
+        let span = name_span_of(word, label);
+        if self.labels.contains(label.name) {
+            return Err(Fault::about_name(Cause::LabelRepeated, line, span));
+        }
+        self.labels
+            .push(label.name)
+            .map_err(|_| Fault::about_name(Cause::TooManyLabels, line, span))
     }
-    enter_line(line, tally)?;
-    note_words(holds_title(line.bytes), line, tally)
-}
 
-// All lines of a text: how many they are, or the first refusal.
-pub fn scan_text<'a>(text: &'a [u8], tally: &mut Tally<'a>) -> Result<usize, Fault>
-    requires { length text.now ≤ 60000 }
-    ensures value { after result tally.new ≡ scan_lines (lines text.now) (seen tally.old) }
-    ensures lines { IfOk result (λ n. n ≡ length (lines text.now)) }
-{
-    let mut reader = Reader::new(text);
-    while let Some(line) = reader.next_line() {
-        note_line(line, tally)?;
+    // A word more: only a label leaves something in the tally.
+    fn note_word(&mut self, word: LineWord<'a>) -> Result<(), Fault>
+        ensures { after result self.new ≡ noted (line_of word.entry.line) (word_of word.entry.word) (parts (is_title word.entry.line.bytes.now) word.entry.word.bytes.now) (seen self.old) }
+    {
+        let LineWord { line, word: part } = word;
+        match parse_word(holds_title(line.bytes), part.bytes) {
+            Err(cause) => Err(Fault::in_line(cause, line.number)),
+            Ok(None) => Ok(()),
+            Ok(Some(marked)) => match marked.mark {
+                Mark::Label => self.define(word, marked),
+                Mark::Page | Mark::Number => Ok(()),
+            },
+        }
     }
-    Ok(reader.lines_read())
+
+    // The words of a line, up to the first that is refused.
+    fn note_words(&mut self, line: Line<'a>) -> Result<(), Fault>
+        ensures { after result self.new ≡ scan_words (is_title line.entry.bytes.now) (line_of line.entry) (line_words line.entry.bytes.now) (seen self.old) }
+    {
+        for word in Words::of_line(line) {
+            self.note_word(word)?;
+        }
+        Ok(())
+    }
+
+    fn enter_heading(&mut self, line: Line<'a>) -> Result<(), Fault>
+        ensures { after result self.new ≡ entered Heading (line_of line.entry) (seen self.old) }
+    {
+        if !is_titled(line.bytes) {
+            return Err(Fault::in_line(Cause::HeadingMalformed, line.number));
+        }
+        if self.headings >= 128 {
+            return Err(Fault::in_line(Cause::TooManyHeadings, line.number));
+        }
+        // Counted over all lines, of which this is one: no loop here has the count.
+        self.headings += 1;
+        Ok(())
+    }
+
+    fn enter_directive(&mut self, line: Line<'a>) -> Result<(), Fault>
+        ensures { after result self.new ≡ entered Directive (line_of line.entry) (seen self.old) }
+    {
+        if line.bytes == b"!contents".as_slice() {
+            if self.contents {
+                return Err(Fault::in_line(Cause::SecondContents, line.number));
+            }
+            self.contents = true;
+            return Ok(());
+        }
+        if line.bytes == b"!page".as_slice() {
+            return Ok(());
+        }
+        Err(Fault::in_line(Cause::DirectiveUnknown, line.number))
+    }
+
+    // What the kind of a line asks of it before its words.
+    fn enter_line(&mut self, line: Line<'a>) -> Result<(), Fault>
+        ensures { after result self.new ≡ entered (kind line.entry.bytes.now) (line_of line.entry) (seen self.old) }
+    {
+        match kind_of(line.bytes) {
+            Kind::Heading => self.enter_heading(line),
+            Kind::Directive => self.enter_directive(line),
+            Kind::Remark | Kind::Text => Ok(()),
+        }
+    }
+
+    fn note_line(&mut self, line: Line<'a>) -> Result<(), Fault>
+        ensures { after result self.new ≡ scan_line (line_of line.entry) (seen self.old) }
+    {
+        if !all_of::<Allowed>(line.bytes) {
+            return Err(Fault::in_line(Cause::ByteNotAllowed, line.number));
+        }
+        self.enter_line(line)?;
+        self.note_words(line)
+    }
+
+    // All lines of a text: how many they are, or the first refusal.
+    pub fn scan_text(&mut self, text: &'a [u8]) -> Result<usize, Fault>
+        ensures value { after result self.new ≡ scan_lines (lines text.now) (seen self.old) }
+        ensures lines { IfOk result (λ n. n ≡ length (lines text.now)) }
+    {
+        let mut count = 0;
+        for line in Reader::new(text) {
+            self.note_line(line)?;
+            count = line.number;
+        }
+        Ok(count)
+    }
 }

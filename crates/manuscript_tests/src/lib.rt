@@ -9,7 +9,7 @@ mod tests {
     use std::test::Fail;
 
     // A text by how often a part stands in it and what ends each part; where that is not empty, a number comes before it.
-    // Then the refusal: cause, line, and the name's offset and length.
+    // Then the refusal: cause, line, and the name's offset and length; 0 for none, as answers show it.
     const REFUSED: [(usize, &str, &str, Cause, usize, usize, usize); 18] = [
         (60001, "\n", "", Cause::ManuscriptTooLong, 0, 0, 0),
         (1, "a\tb", "", Cause::ByteNotAllowed, 1, 0, 0),
@@ -87,6 +87,7 @@ mod tests {
 
     fn text_of(heap: Global, many: usize, part: &str, end: &str) -> Result<String, AllocError> {
         let mut text = String::new(heap);
+        // The number itself is written, so a range is the plain form.
         for i in 0..many {
             text.push_str(part)?;
             if !end.is_empty() {
@@ -101,11 +102,10 @@ mod tests {
     fn refused(rt: HostRuntime) -> Result<(), Fail> {
         for (many, part, end, cause, line, offset, length) in REFUSED {
             let text = text_of(rt.alloc(), many, part, end)?;
-            let name = Span { offset, length };
             let fault = Fault {
                 cause,
-                line,
-                name,
+                line: (line > 0).then_some(line),
+                name: (length > 0).then_some(Span { offset, length }),
                 pass: 0,
             };
             assert_eq!(rt; check_text(text.as_bytes()), Err(fault), "{}", part);

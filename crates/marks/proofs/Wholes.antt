@@ -1,22 +1,20 @@
 -- Taking a word apart loses nothing of it.
-use Rattle.std.proofs.Common.{◌≡◌, ℕ, ◌+◌, Bool, true, ◌&&◌, eqb, ltb, List, [], ◌∷◌, ◌++◌, length, take, drop, Some, None, Option, sym, refl, ap, ◌∙◌, subst, append_assoc, arith, take-append-drop}
+use Rattle.std.proofs.Common.{◌≡◌, ℕ, ◌+◌, Bool, true, ◌&&◌, eqb, ltb, List, [], ◌∷◌, ◌++◌, length, take, drop, is_ok, Some, None, Ok, Err, Option, Result, sym, refl, ap, ◌∙◌, subst, append_assoc, take-append-drop}
 use Rattle.std.specs.List.{prefix_len}
 use Rattle.std.proofs.lemmas.List.{append-nil}
 use Rattle.std.proofs.lemmas.Bool.{cond_both, eqb-true, and_parts}
 use Rattle.names.specs.Name.{naming}
-use Rattle.names.specs.declared.Naming.{Naming}
-use Rattle.names.specs.declared.Naming.TheVariants.{Right, WrongLength, WrongCharacter}
+use Rattle.names.specs.declared.NameError.{NameError}
 use Rattle.runs.specs.Run.{all}
 use Rattle.runs.proofs.Fronts.{all_front}
 use Rattle.marks.specs.declared.mark.Mark.{Mark}
 use Rattle.marks.specs.declared.mark.Mark.TheVariants.{Label, Page, Number}
-use Rattle.marks.specs.Parts.{plain, mark_of, right, standing, shut, closed, marked, opened, parts}
+use Rattle.marks.specs.Parts.{plain, mark_of, standing, shut, closed, marked, opened, parts}
 use Rattle.marks.specs.Whole.{letter, mark_bytes, Whole}
 
-right_is : (n : Naming) → right n ≡ true → n ≡ Right
-right_is Right h = refl
-right_is WrongLength h = let z : ◌≡◌ {A = ℕ} 0 1 = cc in absurd (omega arith)
-right_is WrongCharacter h = let z : ◌≡◌ {A = ℕ} 0 1 = cc in absurd (omega arith)
+right_is : (n : Result (Unit {0}) NameError) → is_ok n ≡ true → n ≡ Ok tt
+right_is (Ok tt) h = refl
+right_is (Err e) h = cc
 
 letter_is : (k : ℕ) (m : Mark) → mark_of k ≡ Some m → k ≡ letter m
 letter_is k m =
@@ -26,15 +24,15 @@ letter_is k m =
     (λ e h. let same : Page ≡ m = cc in eqb-true k 112 e ∙ ap letter same)
     (λ _. cond_both (eqb k 110) (Some Number) None (λ o. o ≡ Some m → k ≡ letter m)
     (λ e h. let same : Number ≡ m = cc in eqb-true k 110 e ∙ ap letter same)
-    (λ _ h. let z : ◌≡◌ {A = ℕ} 0 1 = cc in absurd (omega arith))))
+    (λ _ h. cc)))
 
 module _ (title : Bool) (pre : List ℕ) (clean : all plain pre ≡ true) where
   shut_whole : (m : Mark) (name suf : List ℕ) → Whole (pre ++ (mark_bytes m name ++ suf)) (shut title m pre name suf)
   shut_whole m name suf =
       let w = pre ++ (mark_bytes m name ++ suf) in
-      cond_both (right (naming name) && (all plain suf && standing title m (length pre + length suf))) _ _ (Whole w)
+      cond_both (is_ok (naming name) && (all plain suf && standing title m (length pre + length suf))) _ _ (Whole w)
       (λ e.
-      let named = and_parts (right (naming name)) _ e in
+      let named = and_parts (is_ok (naming name)) _ e in
       let around = and_parts (all plain suf) _ named.1 in
       cond_both (ltb 60 (length pre + length suf)) _ _ (Whole w) (λ _. tt)
       (λ _. record { whole = refl; before = clean; named = right_is (naming name) named.0; behind = around.0 }))

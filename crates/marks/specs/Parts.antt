@@ -2,7 +2,6 @@
 --   plain         a byte that is no brace
 --   MarkedWord    a word with a mark: the bytes before the mark, its name, and the bytes after it
 --   mark_of       the mark of a letter
---   right         whether bytes are a name
 --   standing      whether a mark may stand with so many other bytes in its word, in a title or outside one
 --   sized         a well-formed marked word, refused where its prefix and suffix have more than 60 bytes
 --   shut          the prefix, the name and what follows the closing brace
@@ -10,13 +9,11 @@
 --   marked        what follows the colon
 --   opened        what follows the prefix
 --   parts         a word: no mark, or a marked word
-use Rattle.std.specs.Prelude.{◌≡◌, ℕ, ◌+◌, Bool, true, false, cond, not, ◌&&◌, List, [], ◌∷◌, length, take, drop, Some, None, Ok, Err, codes, Option, Result, ◌==◌, nat_lt, refl}
+use Rattle.std.specs.Prelude.{◌≡◌, ℕ, ◌+◌, Bool, true, false, cond, not, ◌&&◌, List, [], ◌∷◌, length, take, drop, is_ok, Some, None, Ok, Err, codes, Option, Result, ◌==◌, nat_lt, refl}
 use Rattle.std.specs.List.{prefix_len}
 use Rattle.faults.specs.declared.cause.Cause.{Cause}
 use Rattle.faults.specs.declared.cause.Cause.TheVariants.{MarkMalformed, MarkedWordTooLong}
 use Rattle.names.specs.Name.{naming}
-use Rattle.names.specs.declared.Naming.{Naming}
-use Rattle.names.specs.declared.Naming.TheVariants.{Right, WrongLength, WrongCharacter}
 use Rattle.runs.specs.Run.{all}
 use Rattle.marks.specs.declared.mark.Mark.{Mark}
 use Rattle.marks.specs.declared.mark.Mark.TheVariants.{Label, Page, Number}
@@ -36,11 +33,6 @@ Parts = Result (Option MarkedWord) Cause
 abbrev pub mark_of : ℕ → Option Mark
 mark_of b = cond (b == 108) (Some Label) (cond (b == 112) (Some Page) (cond (b == 110) (Some Number) None))
 
-abbrev pub right : Naming → Bool
-right Right = true
-right WrongLength = false
-right WrongCharacter = false
-
 abbrev pub standing : Bool → Mark → ℕ → Bool
 standing title Label around = nat_lt 0 around
 standing title Page around = not title
@@ -53,7 +45,7 @@ sized m pre name suf =
 
 abbrev pub shut : Bool → Mark → List ℕ → List ℕ → List ℕ → Parts
 shut title m pre name suf =
-    cond (right (naming name) && (all plain suf && standing title m (length pre + length suf))) (sized m pre name suf)
+    cond (is_ok (naming name) && (all plain suf && standing title m (length pre + length suf))) (sized m pre name suf)
     (Err MarkMalformed)
 
 abbrev pub closed : Bool → Mark → List ℕ → List ℕ → List ℕ → Parts

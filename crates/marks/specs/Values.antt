@@ -1,8 +1,7 @@
 -- The answer of taking a word apart, as a value.
 --   value_of    a marked word that was handed out
 --   told        an answer
---   Short       at most 60 bytes stand around the mark
-use Rattle.std.specs.Prelude.{◌+◌, ◌≤◌, length, Some, None, Ok, Err, Option, Result}
+use Rattle.std.specs.Prelude.{Some, None, Ok, Err, Option, Result}
 use Rattle.faults.specs.declared.cause.Cause.{Cause}
 use Rattle.marks.specs.declared.mark.Marked.{Marked}
 use Rattle.marks.specs.Parts.{MarkedWord, Parts}
@@ -14,8 +13,3 @@ abbrev pub told : Result (Option Marked) Cause → Parts
 told (Ok None) = Ok None
 told (Ok (Some m)) = Ok (Some (value_of m))
 told (Err e) = Err e
-
-abbrev pub Short : Result (Option Marked) Cause → Type 0
-Short (Ok None) = Unit {0}
-Short (Ok (Some m)) = length m.prefix.now + length m.suffix.now ≤ 60
-Short (Err e) = Unit {0}

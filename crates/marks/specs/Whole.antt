@@ -5,7 +5,6 @@
 --   Whole         what taking a word apart says of it: without a mark it has no brace, and with one it is its parts joined
 use Rattle.std.specs.Prelude.{◌≡◌, ℕ, true, List, [], ◌∷◌, ◌++◌, Some, None, Ok, Err}
 use Rattle.names.specs.Name.{naming}
-use Rattle.names.specs.declared.Naming.TheVariants.{Right}
 use Rattle.runs.specs.Run.{all}
 use Rattle.marks.specs.declared.mark.Mark.{Mark}
 use Rattle.marks.specs.declared.mark.Mark.TheVariants.{Label, Page, Number}
@@ -22,7 +21,7 @@ mark_bytes m name = 123 ∷ letter m ∷ 58 ∷ (name ++ 125 ∷ [])
 pub record Joined (w : List ℕ) (m : MarkedWord) : Type 0 where
   pub whole : w ≡ m.prefix ++ (mark_bytes m.mark m.name ++ m.suffix)
   pub before : all plain m.prefix ≡ true
-  pub named : naming m.name ≡ Right
+  pub named : naming m.name ≡ Ok tt
   pub behind : all plain m.suffix ≡ true
 
 abbrev pub Whole : List ℕ → Parts → Type 0

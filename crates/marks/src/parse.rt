@@ -1,13 +1,14 @@
-// Taking a word apart. One function for each definition of specs/Parts.antt, each handed what is left of the word.
-ghost use Rattle.std.specs.Prelude.{◌≡◌, ℕ, ◌+◌, ◌^◌, ◌<◌, Bool, length};
-ghost use Rattle.std.specs.List.{prefix_len};
-ghost use Rattle.marks.specs.Parts.{plain, mark_of, right, standing, shut, closed, marked, opened, parts};
-ghost use Rattle.marks.specs.Values.{told, Short};
+// Taking a word apart, each function handed what is left of the word.
+ghost use Rattle.std.specs.Prelude.{◌≡◌, Some};
+ghost use Rattle.std.specs.Option.{ok_or};
+ghost use Rattle.faults.specs.declared.cause.Cause.TheVariants.{MarkMalformed};
+ghost use Rattle.marks.specs.Parts.{plain, mark_of, standing, shut, marked, opened, parts};
+ghost use Rattle.marks.specs.Values.{told};
 ghost use Rattle.marks.specs.Whole.{Whole};
 
 use crate::mark::{Mark, Marked};
 use faults::Cause;
-use names::{Naming, named};
+use names::named;
 use runs::{Class, all_of, run_length};
 
 // A byte that is no brace.
@@ -21,103 +22,74 @@ impl Class for Plain {
     }
 }
 
-fn mark_of(letter: u8) -> Option<Mark>
-    ensures { result ≡ mark_of letter }
-{
-    match letter {
-        b'l' => Some(Mark::Label),
-        b'p' => Some(Mark::Page),
-        b'n' => Some(Mark::Number),
-        _ => None,
+// The mark of a letter.
+impl TryFrom<u8> for Mark {
+    type Error = Cause;
+
+    ghost try_from_gives = { λ letter r. r ≡ ok_or (mark_of letter) MarkMalformed };
+
+    fn try_from(letter: u8) -> Result<Mark, Cause> {
+        match letter {
+            b'l' => Ok(Mark::Label),
+            b'p' => Ok(Mark::Page),
+            b'n' => Ok(Mark::Number),
+            _ => Err(Cause::MarkMalformed),
+        }
     }
 }
 
-fn is_right(naming: Naming) -> bool
-    ensures { result ≡ right naming }
-{
-    match naming {
-        Naming::Right => true,
-        Naming::WrongLength | Naming::WrongCharacter => false,
-    }
-}
-
-// Whether a mark may stand where it does: a label beside another byte, a reference outside a title.
-fn may_stand(title: bool, mark: Mark, around: usize) -> bool
-    ensures { result ≡ standing title mark around }
-{
-    match mark {
-        Mark::Label => 0 < around,
-        Mark::Page | Mark::Number => !title,
-    }
-}
-
-// The prefix, the name and the suffix of a whole mark.
-fn shut_parts<'a>(
+// A mark whose letter and colon are read: whether in a title, and what stands before it.
+#[derive(Clone, Copy)]
+struct Opened<'a> {
     title: bool,
     mark: Mark,
     prefix: &'a [u8],
-    name: &'a [u8],
-    suffix: &'a [u8],
-) -> Result<Option<Marked<'a>>, Cause>
-    requires { length prefix.now + length suffix.now < 2 ^ 64 }
-    ensures value { told result ≡ shut title mark prefix.now name.now suffix.now }
-    ensures around { Short result }
-{
-    if !is_right(named(name)) {
-        return Err(Cause::MarkMalformed);
-    }
-    if !all_of::<Plain>(suffix) {
-        return Err(Cause::MarkMalformed);
-    }
-    let around = prefix.len() + suffix.len();
-    if !may_stand(title, mark, around) {
-        return Err(Cause::MarkMalformed);
-    }
-    if around > 60 {
-        return Err(Cause::MarkedWordTooLong);
-    }
-    Ok(Some(Marked {
-        mark,
-        prefix,
-        name,
-        suffix,
-    }))
 }
 
-// What follows the name of a mark.
-fn closed_parts<'a>(
-    title: bool,
-    mark: Mark,
-    prefix: &'a [u8],
-    name: &'a [u8],
-    rest: &'a [u8],
-) -> Result<Option<Marked<'a>>, Cause>
-    requires { length prefix.now + length rest.now < 2 ^ 64 }
-    ensures value { told result ≡ closed title mark prefix.now name.now rest.now }
-    ensures around { Short result }
-{
-    match rest {
-        [b'}', suffix @ ..] => shut_parts(title, mark, prefix, name, suffix),
-        _ => Err(Cause::MarkMalformed),
+impl<'a> Opened<'a> {
+    // Whether the mark may stand where it does: a label beside another byte, a reference outside a title.
+    fn may_stand(self, around: usize) -> bool
+        ensures { result ≡ standing self.entry.title self.entry.mark around }
+    {
+        match self.mark {
+            Mark::Label => 0 < around,
+            Mark::Page | Mark::Number => !self.title,
+        }
     }
-}
 
-// What follows the colon of a mark.
-fn marked_parts<'a>(
-    title: bool,
-    mark: Option<Mark>,
-    prefix: &'a [u8],
-    more: &'a [u8],
-) -> Result<Option<Marked<'a>>, Cause>
-    requires { length prefix.now + length more.now < 2 ^ 64 }
-    ensures value { told result ≡ marked title mark prefix.now more.now }
-    ensures around { Short result }
-{
-    let Some(mark) = mark else {
-        return Err(Cause::MarkMalformed);
-    };
-    let (name, rest) = more.split_at(run_length::<Plain>(more));
-    closed_parts(title, mark, prefix, name, rest)
+    // The whole mark with its name and the suffix.
+    fn shut(self, name: &'a [u8], suffix: &'a [u8]) -> Result<Option<Marked<'a>>, Cause>
+        ensures { told result ≡ shut self.entry.title self.entry.mark self.entry.prefix.now name.now suffix.now }
+    {
+        let Opened { mark, prefix, .. } = self;
+        if named(name).is_err() || !all_of::<Plain>(suffix) {
+            return Err(Cause::MarkMalformed);
+        }
+        let around = prefix.len() + suffix.len();
+        if !self.may_stand(around) {
+            return Err(Cause::MarkMalformed);
+        }
+        if around > 60 {
+            return Err(Cause::MarkedWordTooLong);
+        }
+        Ok(Some(Marked {
+            mark,
+            prefix,
+            name,
+            suffix,
+        }))
+    }
+
+    // What follows the colon.
+    fn marked(self, more: &'a [u8]) -> Result<Option<Marked<'a>>, Cause>
+        ensures { told result ≡ marked self.entry.title (Some self.entry.mark) self.entry.prefix.now more.now }
+    {
+        let (name, rest) = more.split_at(run_length::<Plain>(more));
+        match rest {
+            [b'}', suffix @ ..] => self.shut(name, suffix),
+            _ => Err(Cause::MarkMalformed),
+        }
+    }
 }
 
 // What follows the prefix.
@@ -126,21 +98,27 @@ fn opened_parts<'a>(
     prefix: &'a [u8],
     rest: &'a [u8],
 ) -> Result<Option<Marked<'a>>, Cause>
-    requires { length prefix.now + length rest.now < 2 ^ 64 }
-    ensures value { told result ≡ opened title prefix.now rest.now }
-    ensures around { Short result }
+    ensures { told result ≡ opened title prefix.now rest.now }
 {
     match rest {
         [] => Ok(None),
-        [b'{', letter, b':', more @ ..] => marked_parts(title, mark_of(*letter), prefix, more),
+        [b'{', letter, b':', more @ ..] => {
+            let mark = Mark::try_from(*letter)?;
+            let opened = Opened {
+                title,
+                mark,
+                prefix,
+            };
+            opened.marked(more)
+        }
         _ => Err(Cause::MarkMalformed),
     }
 }
 
 // The parts of a word, in a title or outside one: none for a word without a mark.
+#[tactic(auto, using(crate::proofs::Wholes::whole))]
 pub fn parse_word<'a>(title: bool, word: &'a [u8]) -> Result<Option<Marked<'a>>, Cause>
     ensures value { told result ≡ parts title word.now }
-    ensures around { Short result }
     ensures joined { Whole word.now (told result) }
 {
     let (prefix, rest) = word.split_at(run_length::<Plain>(word));

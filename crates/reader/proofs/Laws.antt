@@ -4,7 +4,7 @@ use Rattle.std.specs.List.{prefix_len}
 use Rattle.std.proofs.lemmas.List.{at_drop_all, drop_more}
 use Rattle.std.proofs.lemmas.List.Sums.{prefix_len-le-length}
 use Rattle.std.proofs.lemmas.Bool.{cond-true, cond-false, cases_Bool}
-use Rattle.reader.specs.Lines.{in_line, lines_past, lines_from}
+use Rattle.reader.specs.Lines.{in_line, SourceLine, lines_past, lines_from}
 use Rattle.reader.specs.Words.{space, in_word, words_past, words}
 
 -- a longest front from a place stays within the list
@@ -138,3 +138,10 @@ module _ (l : List ℕ) (at s n : ℕ) (spaces : s ≡ prefix_len space (drop at
       ∙ subst P (sym (drop_more l o 0 f.0)) (words_cons (b + s) (get_or l o 0) (drop (o + 1) l) f.1)
       ∙ (λ j. record { offset = b + s; bytes = take (sym run j) (drop o l) } ∷ words (b + s + sym run j) (drop (sym run j) (drop o l)))
       ∙ ap (λ x. record { offset = b + s; bytes = take n (drop o l) } ∷ words (b + s + n) x) (drop-drop n o l)
+
+-- the first of the lines from a number on has that number
+pub first_number : (n i : ℕ) (t : List ℕ) (l : SourceLine) (ls : List SourceLine) → lines_from n i t ≡ l ∷ ls → l.number ≡ n
+first_number n i [] l ls e = cc
+first_number n i (b ∷ bs) l ls e =
+    let same : record { number = n; offset = i; bytes = take (prefix_len in_line (b ∷ bs)) (b ∷ bs) } ≡ l = cc in
+    ap (λ (x : SourceLine). x.number) (sym same)

@@ -3,3 +3,4 @@ pub mod Words
 pub mod Kinds
 pub mod Reading
 pub mod Laws
+pub mod Left

@@ -2,9 +2,9 @@
 ghost use Rattle.std.specs.Prelude.{◌≡◌, ◌≤◌, length};
 ghost use Rattle.reader.specs.Kinds.{kind, level, prose_start_lem};
 
-use runs::run_length;
+use runs::{Byte, run_length};
 
-#[derive(Clone, Copy, PartialEq, Debug)]
+#[derive(Clone, Copy, PartialEq, Eq, Debug)]
 pub enum Kind {
     Heading,
     Directive,
@@ -16,13 +16,10 @@ pub enum Kind {
 pub fn kind_of(line: &[u8]) -> Kind
     ensures { result ≡ kind line.now }
 {
-    if line.is_empty() {
-        return Kind::Text;
-    }
-    match char::from(line[0]) {
-        '#' => Kind::Heading,
-        '!' => Kind::Directive,
-        '%' => Kind::Remark,
+    match line {
+        [b'#', ..] => Kind::Heading,
+        [b'!', ..] => Kind::Directive,
+        [b'%', ..] => Kind::Remark,
         _ => Kind::Text,
     }
 }
@@ -32,7 +29,7 @@ pub fn level_of(line: &[u8]) -> usize
     ensures value { result ≡ level line.now }
     ensures bound { result ≤ length line.now }
 {
-    run_length::<crate::classes::Hash>(line)
+    run_length::<Byte<b'#'>>(line)
 }
 
 // Where the words of a line begin: at its end where it has none to set.

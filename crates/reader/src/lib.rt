@@ -2,11 +2,10 @@
 #![tactic(auto)]
 
 pub use kinds::{Kind, kind_of, level_of, prose_start};
-pub use place::{Line, Place, Word};
+pub use place::{Line, LineWord, Place, Word};
 pub use reader::Reader;
-pub use words::next_word;
+pub use words::{Words, next_word};
 
-mod classes;
 mod kinds;
 mod place;
 mod reader;

@@ -1,7 +1,8 @@
 // What the reader hands out, and the plain record of where it stands.
+ghost use Rattle.std.specs.Prelude.{◌+◌, ◌^◌, ◌<◌, ◌≤◌, length};
 
 // The offset of the next line, and how many lines were read.
-#[derive(Clone, Copy, PartialEq, Debug)]
+#[derive(Clone, Copy, PartialEq, Eq, Debug)]
 pub struct Place {
     pub at: usize,
     pub lines: usize,
@@ -13,6 +14,7 @@ pub struct Line<'a> {
     pub number: usize,
     pub offset: usize,
     pub bytes: &'a [u8],
+    ghost ends: { offset + length bytes.now < 2 ^ 63 },
 }
 
 // A word: the offset of its first byte in its line, and its bytes.
@@ -20,4 +22,12 @@ pub struct Line<'a> {
 pub struct Word<'a> {
     pub offset: usize,
     pub bytes: &'a [u8],
+}
+
+// A word and the line in which it stands.
+#[derive(Clone, Copy)]
+pub struct LineWord<'a> {
+    pub line: Line<'a>,
+    pub word: Word<'a>,
+    ghost inside: { word.offset + length word.bytes.now ≤ length line.bytes.now },
 }

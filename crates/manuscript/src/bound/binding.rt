@@ -7,6 +7,7 @@ use crate::bound::Manuscript;
 use crate::checking::check;
 
 // The manuscript of some bytes, or the empty one where the check refuses them.
+#[tactic(auto, using(crate::proofs::Labelling::labelled))]
 pub fn bind(bytes: &[u8]) -> Manuscript<'_>
     ensures bytes { result.text.now ≡ bound bytes.now }
     ensures labelled { Labelled result.text.now }

@@ -1,12 +1,13 @@
 // Reading a text line by line.
-ghost use Rattle.std.specs.Prelude.{◌≡◌, ℕ, ◌+◌, ◌-◌, ◌≤◌, length};
-ghost use Rattle.std.specs.List.{prefix_len};
+ghost use Rattle.std.specs.Prelude.{◌≡◌};
 ghost use Rattle.reader.specs.Laws.{LinesLaw};
+ghost use Rattle.std.specs.Iterator.{item_count};
 ghost use Rattle.reader.specs.Reading.{front, LineAt, NextLine};
+ghost use Rattle.reader.specs.Left.{lines_left, NextOfText};
 
 use crate::place::{Line, Place};
 use crate::reader::Reader;
-use runs::run_length;
+use runs::{AnyBut, run_length};
 
 // Where a text begins.
 fn front_of(text: &[u8]) -> Place
@@ -14,33 +15,6 @@ fn front_of(text: &[u8]) -> Place
     ensures law { LinesLaw text.now }
 {
     Place { at: 0, lines: 0 }
-}
-
-// The line at a place, and the place after it; none at the end of the text.
-fn line_at<'a>(text: &'a [u8], place: Place) -> Option<(Line<'a>, Place)>
-    requires at_in_bounds { place.at ≤ length text.now }
-    requires lines_le_at { place.lines ≤ place.at }
-    ensures { LineAt text.now place result }
-{
-    let Place { at: offset, lines } = place;
-    if offset == text.len() {
-        return None;
-    }
-    let end = offset + run_length::<crate::classes::InLine>(&text[offset..]);
-    let next = if end < text.len() { end + 1 } else { end };
-    let number = lines + 1;
-    let line = Line {
-        number,
-        offset,
-        bytes: &text[offset..end],
-    };
-    Some((
-        line,
-        Place {
-            at: next,
-            lines: number,
-        },
-    ))
 }
 
 impl<'a> Reader<'a> {
@@ -61,12 +35,50 @@ impl<'a> Reader<'a> {
         self.place.lines
     }
 
+    // The next line, and the place after it; none at the end of the text.
+    fn line_ahead(&self) -> Option<(Line<'a>, Place)>
+        ensures { LineAt self.now.text.now self.now.place result }
+    {
+        let text = self.text;
+        let Place { at: offset, lines } = self.place;
+        if offset == text.len() {
+            return None;
+        }
+        let end = offset + run_length::<AnyBut<b'\n'>>(&text[offset..]);
+        let next = if end < text.len() { end + 1 } else { end };
+        let number = lines + 1;
+        let line = Line {
+            number,
+            offset,
+            bytes: &text[offset..end],
+        };
+        Some((
+            line,
+            Place {
+                at: next,
+                lines: number,
+            },
+        ))
+    }
+
     // The next line, or none at the end of the text.
     pub fn next_line(&mut self) -> Option<Line<'a>>
         ensures text { self.new.text ≡ self.old.text }
         ensures next { NextLine self.old.text.now self.old.place result self.new.place }
     {
-        let (line, after) = line_at(self.text, self.place)?;
+        self.next()
+    }
+}
+
+impl<'a> Iterator for Reader<'a> {
+    type Item = Line<'a>;
+
+    ghost next_gives = { NextOfText };
+
+    ghost remaining = { item_count lines_left };
+
+    fn next(&mut self) -> Option<Line<'a>> {
+        let (line, after) = self.line_ahead()?;
         self.place = after;
         Some(line)
     }

@@ -3,17 +3,17 @@ use Rattle.std.specs.List.{prefix_len}
 use Rattle.std.proofs.lemmas.List.{at_drop_all, take_rest}
 use Rattle.reader.specs.Lines.{in_line, SourceLine, lines_from}
 use Rattle.reader.proofs.Laws.{line_here, last_line, line_length}
-use Rattle.reader.proofs.reader.reading.line_at.Goals as goal
-use Rattle.reader.proofs.reader.reading.line_at.Goals.{then-end-text, else-end-text}
+use Rattle.reader.proofs.reader.Reader.line_ahead.Goals as goal
+use Rattle.reader.proofs.reader.Reader.line_ahead.Goals.{then-end-text, else-end-text}
 
 pub returns-then-offset-text : goal.returns-then-offset-text
-returns-then-offset-text c = at_drop_all (lines_from (c.args.place.lines + 1) c.args.place.at) c.args.text.now c.args.place.at (omega arith)
+returns-then-offset-text c = at_drop_all (lines_from (c.args.self.now.place.lines + 1) c.args.self.now.place.at) c.args.self.now.text.now c.args.self.now.place.at (omega arith)
 
 pub returns : goal.returns
 returns c =
-    let t = c.args.text.now in
-    let i = c.args.place.at in
-    let n = c.args.place.lines + 1 in
+    let t = c.args.self.now.text.now in
+    let i = c.args.self.now.place.at in
+    let n = c.args.self.now.place.lines + 1 in
     let m = c.run_length.result in
     let run : m ≡ prefix_len in_line (drop i t) = c.run_length.ensures.value ∙ ap (prefix_len in_line) (take_rest t i) in
     let inside : i < length t = omega arith in
