@@ -1,18 +1,9 @@
--- The laws of `written`: nothing, one byte, and one text after another.
-use Rattle.std.proofs.Common.{◌≡◌, ℕ, ◌+◌, ◌-◌, ◌<◌, ◌≤◌, List, [], ◌∷◌, ◌++◌, length, take, drop, set, sym, ap, ◌∙◌, append_assoc, add-zero, add_assoc, add-one, arith, length-append, length-drop, take-append-drop, length-take-le, drop-drop, take_at, drop_at}
-use native.Mathlib.Nat.{sub-zero}
-use lib.Seq.{set_split}
+-- The laws of `written`: nothing, and one text after another.
+use Rattle.std.proofs.Common.{◌≡◌, ℕ, ◌+◌, ◌≤◌, List, [], ◌++◌, length, take, drop, sym, ap, ◌∙◌, append_assoc, add-zero, add_assoc, arith, length-append, length-drop, take-append-drop, length-take-le, drop-drop, take_at, drop_at}
 use Rattle.buffers.specs.Written.{written}
 
 pub written_none : (o : List ℕ) (at : ℕ) → written o at [] ≡ o
 written_none o at = rw add-zero (take-append-drop at o)
-
-pub written_one : (o : List ℕ) (at x : ℕ) → at < length o → set o at x ≡ written o at (x ∷ [])
-written_one o at x h = rw add-one (set_split o at x h)
-
--- what was written at the start of a buffer is its front, as the part `[0..n]` reads it
-pub front_is : (o bs : List ℕ) {p : List ℕ} {n : ℕ} → n ≡ length bs → p ≡ written o 0 bs → take (n - 0) p ≡ bs
-front_is o bs {p} {n} e w = (λ i. take (sub-zero n i) (w i)) ∙ take_at bs _ n (sym e)
 
 module _ (o : List ℕ) (at : ℕ) (a : List ℕ) (h : at + length a ≤ length o) where
   long : length (take at o ++ a) ≡ at + length a

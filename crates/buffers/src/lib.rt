@@ -1,4 +1,5 @@
 // Writing into a lent buffer: the bytes at a place change, and no other.
+// Buffer and place are two parameters: of a struct with both, each contract would also say that it still holds the same buffer.
 #![tactic(auto)]
 
 ghost use Rattle.std.specs.Prelude.{◌≡◌, ◌+◌, ◌≤◌, length};

@@ -1,31 +1,31 @@
 -- The steps of the greedy rule, and its sum.
-use Rattle.std.proofs.Common.{◌≡◌, ℕ, zero, suc, ◌+◌, ◌-◌, ◌*◌, ◌/◌, ◌%◌, ◌<◌, ◌≤◌, List, [], ◌∷◌, ◌++◌, get_or, drop, replicate, sym, ap, ◌∙◌, mod-eq_of_lt, suc-mul, div-add-mod', add-one, arith}
-use native.Mathlib.Nat.{mod-eq-sub-mod, div-eq_of_lt, div-eq-sub-div, mod-one}
+use Rattle.std.specs.List.{flat_map}
+use Rattle.std.proofs.lemmas.Grind.{flat_map-append}
+use Rattle.std.proofs.Common.{◌≡◌, ℕ, zero, suc, ◌+◌, ◌-◌, ◌*◌, ◌/◌, ◌%◌, ◌<◌, ◌≤◌, List, [], ◌∷◌, ◌++◌, get_or, drop, replicate, sym, ap, ◌∙◌, append_assoc, append-nil, None, suc-mul, div-add-mod', add-one, arith}
+use native.Mathlib.Nat.{div-eq_of_lt, div-eq-sub-div, mod-one}
 use Rattle.std.proofs.lemmas.List.{drop_more, drop_all}
-use Rattle.numerals.specs.Roman.{Row, rows, chosen, values}
+use Rattle.numerals.specs.Roman.{Row, rows, letters, chosen, values}
 
-at_row : (i : ℕ) (r : Row) → i < 12 → r ≡ get_or rows i (0, 0, 0) → drop i rows ≡ r ∷ drop (i + 1) rows
+-- a row that is not above the rest is added once more
+pub row_again : (text : List ℕ) (n : ℕ) (r : Row) → 0 < r.0 → r.0 ≤ n → text ++ flat_map letters (replicate (n / r.0) r) ≡ (text ++ letters r) ++ flat_map letters (replicate ((n - r.0) / r.0) r)
+row_again text n r pos le = ap (λ k. text ++ flat_map letters (replicate k r)) (div-eq-sub-div pos le ∙ add-one _) ∙ sym (append_assoc text (letters r) _)
+
+-- a row above the rest is added no more
+pub row_done : (text : List ℕ) (n : ℕ) (r : Row) → n < r.0 → text ++ flat_map letters (replicate (n / r.0) r) ≡ text
+row_done text n r lt = ap (λ k. text ++ flat_map letters (replicate k r)) (div-eq_of_lt lt) ∙ append-nil text
+
+-- a row is added as often as it goes into the rest, and then come the rows after it
+pub row_added : (text : List ℕ) (i n : ℕ) (r : Row) → i < 12 → r ≡ get_or rows i (0, 0, None) → text ++ flat_map letters (chosen (drop i rows) n) ≡ (text ++ flat_map letters (replicate (n / r.0) r)) ++ flat_map letters (chosen (drop (i + 1) rows) (n % r.0))
 unfolding rows
-at_row i r h e = drop_more rows i (0, 0, 0) h ∙ ap (λ x. x ∷ drop (i + 1) rows) (sym e)
+row_added text i n r h e =
+    let d : drop i rows ≡ r ∷ drop (i + 1) rows = drop_more rows i (0, 0, None) h ∙ ap (λ x. x ∷ drop (i + 1) rows) (sym e) in
+    ap (λ l. text ++ flat_map letters (chosen l n)) d
+    ∙ ap (λ l. text ++ l) (flat_map-append letters (replicate (n / r.0) r) _)
+    ∙ sym (append_assoc text _ _)
 
--- a row that is not above the rest is written
-pub takes : (i n : ℕ) (r : Row) → i < 12 → r ≡ get_or rows i (0, 0, 0) → 0 < r.0 → r.0 ≤ n → chosen (drop i rows) n ≡ r ∷ chosen (drop i rows) (n - r.0)
-takes i n r h e pos le =
-    let d = at_row i r h e in
-    let q : n / r.0 ≡ suc ((n - r.0) / r.0) = div-eq-sub-div pos le ∙ add-one _ in
-    ap (λ l. chosen l n) d
-    ∙ (λ j. replicate (q j) r ++ chosen (drop (i + 1) rows) (mod-eq-sub-mod le j))
-    ∙ ap (λ l. r ∷ chosen l (n - r.0)) (sym d)
-
--- a row above the rest is passed
-pub passes : (i n : ℕ) (r : Row) → i < 12 → r ≡ get_or rows i (0, 0, 0) → n < r.0 → chosen (drop i rows) n ≡ chosen (drop (i + 1) rows) n
-passes i n r h e lt =
-    ap (λ l. chosen l n) (at_row i r h e)
-    ∙ (λ j. replicate (div-eq_of_lt lt j) r ++ chosen (drop (i + 1) rows) (mod-eq_of_lt lt j))
-
-pub ends : (i n : ℕ) → 12 ≤ i → chosen (drop i rows) n ≡ []
+pub ends : (text : List ℕ) (i n : ℕ) → 12 ≤ i → text ++ flat_map letters (chosen (drop i rows) n) ≡ text
 unfolding rows
-ends i n h = ap (λ l. chosen l n) (drop_all i rows h)
+ends text i n h = ap (λ l. text ++ flat_map letters (chosen l n)) (drop_all i rows h) ∙ append-nil text
 
 -- what the rows leave of a number
 rest : List Row → ℕ → ℕ

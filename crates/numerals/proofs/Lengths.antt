@@ -1,11 +1,11 @@
 -- How long the texts are, and how a number's text is put together.
-use Rattle.std.proofs.Common.{◌≡◌, ℕ, zero, suc, ◌<◌, ◌≤◌, Bool, true, ◌&&◌, T, ltb, leb, List, ◌∷◌, ◌++◌, length, None, MatchBool, Option, sym, refl, ap, ◌∙◌, subst, append_assoc, append-nil, arith}
-use Rattle.std.proofs.lemmas.Bool.{cond_both, leb-true, le-leb, and_from, and_parts}
-use Rattle.std.proofs.lemmas.Bool.Decides.{nat_tests, Decides-below_and, when_true}
-use Rattle.buffers.specs.Written.{Puts}
-use Rattle.numerals.specs.declared.style.NumeralStyle.{NumeralStyle}
+use Rattle.std.proofs.Common.{◌≡◌, ℕ, zero, suc, ◌<◌, ◌≤◌, Bool, true, ◌&&◌, T, ltb, leb, List, ◌∷◌, ◌++◌, length, sym, refl, ap, ◌∙◌, append-nil, arith}
+use Rattle.std.proofs.lemmas.Bool.{cond_both, leb-true, le-leb, and_parts}
+use Rattle.std.proofs.lemmas.Bool.Decides.{nat_tests, Decides-below_and}
 use Rattle.numerals.specs.Roman.{rows, roman}
-use Rattle.numerals.specs.Numeral.{decimal, is_page, numeral, PagePuts}
+use Rattle.numerals.specs.declared.style.NumeralStyle.TheVariants.{Decimal, Roman}
+use Rattle.numerals.specs.Numeral.{decimal, is_page, numeral, NumeralLaws}
+use Rattle.numerals.proofs.Greedy.{values_all}
 use Rattle.numerals.specs.Sound.{number_ok}
 use Rattle.numerals.specs.Heading.{number_text}
 use Rattle.numerals.specs.declared.counters.Counters.{Counters}
@@ -39,23 +39,21 @@ roman_short = (Decides-below_and (λ n. leb (length (roman n)) 12) (λ n. length
 pub page_bounds : (n : ℕ) → T (is_page n) → (1 ≤ n) × (n < 1000)
 page_bounds n p = (grind (arith, nat_tests), grind (arith, nat_tests))
 
-module _ (s : NumeralStyle) (n : ℕ) (out : List ℕ) (at : ℕ) (r : Option ℕ) (after : List ℕ) where
-  page_ok : 1 ≤ n → n ≤ 999 → is_page n ≡ true
-  page_ok l h = and_from _ _ (le-leb 1 n l) (le-leb n 999 h)
+-- the number of no heading is 0, and that of a heading of level 1 is its counter
+first_text : (level : ℕ) (cs : Counters) → (level ≡ 0 → cs.first ≡ 0) → level < 2 → decimal cs.first ≡ number_text level cs
+first_text zero cs z h = ap decimal (z refl)
+first_text (suc zero) cs z h = sym (append-nil _)
+first_text (suc (suc n)) cs z h = absurd (omega arith)
 
-  pub puts_page : 1 ≤ n → n ≤ 999 → Puts (numeral s n) out at r after → PagePuts s n out at r after
-  puts_page l h w = subst (λ (b : Bool). MatchBool b (Puts (numeral s n) out at r after) ((r ≡ None) × (after ≡ out))) (sym (page_ok l h)) w
+pub laws : NumeralLaws
+laws = (values_all, λ s n p. elim s as (λ t. length (numeral t n) ≤ 12) [ Decimal ↦ omega (arith, decimal_short n) | Roman ↦ roman_short n (page_bounds n p).1 ])
 
-  -- what a caller that has a page learns
-  pub page_puts : 1 ≤ n → n ≤ 999 → PagePuts s n out at r after → Puts (numeral s n) out at r after
-  page_puts l h w = when_true _ _ (page_ok l h) w
+module _ (level : ℕ) (cs : Counters) (ok : number_ok level cs ≡ true) where
+  pub text_one : level < 2 → decimal cs.first ≡ number_text level cs
+  unfolding number_ok
+  text_one h = first_text level cs (grind (arith, nat_tests)) h
 
-module _ (cs : Counters) where
-  pub text_two : (level : ℕ) → level ≡ 2 → decimal cs.first ++ (46 ∷ decimal cs.second) ≡ number_text level cs
-  text_two level e = ap (λ l. decimal cs.first ++ l) (sym (append-nil _)) ∙ ap (λ n. number_text n cs) (sym e)
-
-  pub text_three : (level : ℕ) → level ≡ 3 → (decimal cs.first ++ (46 ∷ decimal cs.second)) ++ (46 ∷ decimal cs.third) ≡ number_text level cs
-  text_three level e =
-      append_assoc (decimal cs.first) _ _
-      ∙ ap (λ l. decimal cs.first ++ ((46 ∷ decimal cs.second) ++ l)) (sym (append-nil _))
-      ∙ ap (λ n. number_text n cs) (sym e)
+  pub text_two : 2 ≤ level → (level ≡ 3 → ⊥) → decimal cs.first ++ (46 ∷ decimal cs.second) ≡ number_text level cs
+  text_two h ne =
+      let e : level ≡ 2 = omega (arith, level_bound level cs ok) in
+      ap (λ l. decimal cs.first ++ l) (sym (append-nil _)) ∙ ap (λ n. number_text n cs) (sym e)

@@ -2,4 +2,4 @@ pub mod Roman
 pub mod Numeral
 pub mod Sound
 pub mod Heading
-pub mod Sameness
+pub mod Same

@@ -3,13 +3,15 @@
 --   decimal        a number below 1000 in decimal digits
 --   numeral        a page in the chosen style
 --   style_letter   the letter that stands for a style
+--   OfLetter       what reading a letter answers: the style that it stands for, or that it stands for none
 --   PagePuts       what writing a page's numeral at a place answers and leaves: nothing where the number is no page
 --   NumeralLaws    the rows that are written for a number add up to it, and no page has more than 12 letters
-use Rattle.std.specs.Prelude.{◌≡◌, ℕ, ◌+◌, ◌/◌, ◌%◌, ◌≤◌, Bool, cond, ◌&&◌, T, List, [], ◌∷◌, length, None, codes, MatchBool, Option, nat_le, nat_lt, refl}
+use Rattle.std.specs.Prelude.{◌≡◌, ℕ, ◌+◌, ◌/◌, ◌%◌, ◌≤◌, Bool, cond, ◌&&◌, T, List, [], ◌∷◌, length, None, codes, MatchBool, Option, Result, MatchResult, ◌≢◌, nat_le, nat_lt, refl}
 use Rattle.buffers.specs.Written.{Puts}
 use Rattle.numerals.specs.Roman.{rows, chosen, values, roman}
 use Rattle.numerals.specs.declared.style.NumeralStyle.{NumeralStyle}
 use Rattle.numerals.specs.declared.style.NumeralStyle.TheVariants.{Decimal, Roman}
+use Rattle.numerals.specs.declared.style.UnknownStyle.{UnknownStyle}
 
 abbrev pub is_page : ℕ → Bool
 is_page n = nat_le 1 n && nat_le n 999
@@ -30,6 +32,9 @@ numeral Roman n = roman n
 abbrev pub style_letter : NumeralStyle → ℕ
 style_letter Decimal = 100
 style_letter Roman = 114
+
+abbrev pub OfLetter : ℕ → Result NumeralStyle UnknownStyle → Type 0
+OfLetter letter r = MatchResult r (λ s. style_letter s ≡ letter) (λ e. (e.0 ≡ letter) × ((s : NumeralStyle) → style_letter s ≢ letter))
 
 abbrev pub PagePuts : NumeralStyle → ℕ → List ℕ → ℕ → Option ℕ → List ℕ → Type 0
 PagePuts s n out at r after = MatchBool (is_page n) (Puts (numeral s n) out at r after) ((r ≡ None) × (after ≡ out))

@@ -2,15 +2,19 @@
 #![tactic(auto)]
 
 pub use counters::Counters;
+pub use exact::Exact;
 pub use heading::HeadingNumber;
-pub use pages::{numeral_laws, page_numeral};
-pub use style::NumeralStyle;
+pub use numeral::{page_numeral, page_text};
+pub use style::{NumeralStyle, UnknownStyle};
+pub use text::Text;
 pub use texts::heading_number;
 
 mod counters;
 mod decimals;
+mod exact;
 mod heading;
-mod pages;
+mod numeral;
 mod romans;
 mod style;
+mod text;
 mod texts;

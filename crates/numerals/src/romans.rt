@@ -1,64 +1,62 @@
 // Roman numerals by the numeral table.
-ghost use Rattle.std.specs.Prelude.{◌≡◌, ◌+◌, ◌<◌, ◌≤◌, length, slice_index_or};
-ghost use Rattle.buffers.specs.Written.{written};
-ghost use Rattle.numerals.specs.Roman.{rows, letters, roman};
+ghost use Rattle.std.specs.Prelude.{◌≡◌, ◌+◌, ◌%◌, ◌/◌, ◌<◌, ◌≤◌, ◌++◌, length, replicate};
+ghost use Rattle.std.specs.List.{flat_map};
+ghost use Rattle.numerals.specs.Roman.{letters, roman};
 
-use buffers::write;
+use crate::text::Text;
 
-// A row's value and its letter pair; a row of one letter has 0 for the second.
-const ROWS: [(u16, u8, u8); 12] = [
-    (900, b'c', b'm'),
-    (500, b'd', 0),
-    (400, b'c', b'd'),
-    (100, b'c', 0),
-    (90, b'x', b'c'),
-    (50, b'l', 0),
-    (40, b'x', b'l'),
-    (10, b'x', 0),
-    (9, b'i', b'x'),
-    (5, b'v', 0),
-    (4, b'i', b'v'),
-    (1, b'i', 0),
+// A row's value and its letters, one or two.
+type Row = (u16, u8, Option<u8>);
+
+const ROWS: [Row; 12] = [
+    (900, b'c', Some(b'm')),
+    (500, b'd', None),
+    (400, b'c', Some(b'd')),
+    (100, b'c', None),
+    (90, b'x', Some(b'c')),
+    (50, b'l', None),
+    (40, b'x', Some(b'l')),
+    (10, b'x', None),
+    (9, b'i', Some(b'x')),
+    (5, b'v', None),
+    (4, b'i', Some(b'v')),
+    (1, b'i', None),
 ];
 
-fn row_at(i: usize) -> (u16, u8, u8)
-    requires { i < 12 }
-    ensures row { result ≡ slice_index_or rows i (0, 0, 0) }
-    ensures positive { 0 < result.0 }
+// Adds the letters of a row.
+fn push_letters(text: &mut Text, row: Row)
+    requires { length text.old.items + length (letters row) ≤ 12 }
+    ensures { text.new.items ≡ text.old.items ++ letters row }
 {
-    ROWS[i]
-}
-
-// Writes the letters of a row, and answers their end.
-fn write_letters(first: u8, second: u8, out: &mut [u8], at: usize) -> usize
-    requires { at + length (letters (0, first, second)) ≤ length out.old }
-    ensures end { result ≡ at + length (letters (0, first, second)) }
-    ensures after { out.new ≡ written out.old at (letters (0, first, second)) }
-{
-    if second == 0 {
-        write(out, at, &[first])
-    } else {
-        write(out, at, &[first, second])
+    let (_, first, second) = row;
+    text.push(first);
+    if let Some(second) = second {
+        text.push(second);
     }
 }
 
-// Writes the roman numeral of a number for which there is room, and answers its end.
-pub fn write_roman(n: u16, out: &mut [u8], at: usize) -> usize
-    requires { at + length (roman n) ≤ length out.old }
-    ensures end { result ≡ at + length (roman n) }
-    ensures after { out.new ≡ written out.old at (roman n) }
+// Adds the letters of a row as often as its value goes into a number, and answers what is left of the number.
+fn push_row(text: &mut Text, row: Row, n: u16) -> u16
+    requires value { 0 < row.0 }
+    requires room { length text.old.items + length (flat_map letters (replicate (n / row.0) row)) ≤ 12 }
+    ensures rest { result ≡ n % row.0 }
+    ensures items { text.new.items ≡ text.old.items ++ flat_map letters (replicate (n / row.0) row) }
 {
     let mut rest = n;
-    let mut end = at;
-    let mut row = 0;
-    while row < ROWS.len() {
-        let (value, first, second) = row_at(row);
-        if value <= rest {
-            end = write_letters(first, second, out, end);
-            rest -= value;
-        } else {
-            row += 1;
-        }
+    while rest >= row.0 {
+        push_letters(text, row);
+        rest -= row.0;
     }
-    end
+    rest
+}
+
+// Adds the roman numeral of a number for which there is room.
+pub fn push_roman(text: &mut Text, n: u16)
+    requires { length text.old.items + length (roman n) ≤ 12 }
+    ensures { text.new.items ≡ text.old.items ++ roman n }
+{
+    let mut rest = n;
+    for row in &ROWS {
+        rest = push_row(text, *row, rest);
+    }
 }

@@ -1,32 +1,47 @@
 // In which numerals pages are printed.
-ghost use Rattle.std.specs.Prelude.{◌≡◌, MatchOption, ◌≢◌};
-ghost use Rattle.numerals.specs.Numeral.{style_letter};
+ghost use Rattle.std.specs.Prelude.{◌≡◌};
+ghost use Rattle.numerals.specs.Numeral.{style_letter, OfLetter};
+
+use std::error::Error;
+use std::fmt;
 
 #[derive(Clone, Copy, PartialEq, Eq, Debug)]
 pub enum NumeralStyle {
-    Decimal,
-    Roman,
+    Decimal = b'd' as isize,
+    Roman = b'r' as isize,
 }
 
-impl NumeralStyle {
-    // The letter that stands for the style.
-    pub fn letter(self) -> u8
-        ensures { result ≡ style_letter self }
-    {
-        match self {
-            NumeralStyle::Decimal => b'd',
-            NumeralStyle::Roman => b'r',
-        }
-    }
+// A letter that stands for no style.
+#[derive(Clone, Copy, PartialEq, Eq, Debug)]
+pub struct UnknownStyle(pub u8);
 
-    // The style that a letter stands for, if it stands for one.
-    pub fn of_letter(letter: u8) -> Option<NumeralStyle>
-        ensures { MatchOption result ((s : NumeralStyle) → style_letter s ≢ letter) (λ s. style_letter s ≡ letter) }
-    {
+// The letter that stands for the style.
+impl From<NumeralStyle> for u8 {
+    ghost from_gives = { λ style letter. letter ≡ style_letter style };
+
+    fn from(style: NumeralStyle) -> u8 {
+        style as u8
+    }
+}
+
+impl TryFrom<u8> for NumeralStyle {
+    type Error = UnknownStyle;
+
+    ghost try_from_gives = { OfLetter };
+
+    fn try_from(letter: u8) -> Result<NumeralStyle, UnknownStyle> {
         match letter {
-            b'd' => Some(NumeralStyle::Decimal),
-            b'r' => Some(NumeralStyle::Roman),
-            _ => None,
+            b'd' => Ok(NumeralStyle::Decimal),
+            b'r' => Ok(NumeralStyle::Roman),
+            _ => Err(UnknownStyle(letter)),
         }
     }
 }
+
+impl fmt::Display for UnknownStyle {
+    fn fmt<W: fmt::Write>(&self, f: &mut fmt::Formatter<W>) -> fmt::Result {
+        write!(f, "no numerals have the letter {}", self.0)
+    }
+}
+
+impl Error for UnknownStyle {}

@@ -1,49 +1,43 @@
 // The text of a heading's number.
-ghost use Rattle.std.specs.Prelude.{◌≡◌, ◌+◌, ◌≤◌, ◌∷◌, length};
-ghost use Rattle.buffers.specs.Written.{written, Puts};
+ghost use Rattle.std.specs.Prelude.{◌≡◌, ◌+◌, ◌≤◌, ◌∷◌, ◌++◌, length};
+ghost use Rattle.buffers.specs.Written.{Puts};
 ghost use Rattle.numerals.specs.Numeral.{decimal};
 ghost use Rattle.numerals.specs.Heading.{number_text};
 
-use crate::decimals::write_decimal;
+use crate::decimals::push_decimal;
 use crate::heading::HeadingNumber;
-use buffers::{put, write};
+use crate::text::Text;
+use buffers::put;
+
+// Adds a point and a counter.
+fn push_next(text: &mut Text, counter: u8)
+    requires { length text.old.items + 4 ≤ 12 }
+    ensures { text.new.items ≡ text.old.items ++ (46 ∷ decimal counter) }
+{
+    text.push(b'.');
+    push_decimal(text, counter as u16);
+}
+
+impl HeadingNumber {
+    // The counters up to the level, joined by points; 0 before any heading.
+    pub fn text(self) -> Text
+        ensures { result.items ≡ number_text self.level self.counters }
+    {
+        let mut text = Text::new();
+        push_decimal(&mut text, self.counters.first as u16);
+        if self.level >= 2 {
+            push_next(&mut text, self.counters.second);
+        }
+        if self.level == 3 {
+            push_next(&mut text, self.counters.third);
+        }
+        text
+    }
+}
 
 // Writes the number of a heading and answers its end, or changes nothing where it does not fit.
 pub fn heading_number(number: HeadingNumber, out: &mut [u8], at: usize) -> Option<usize>
     ensures { Puts (number_text number.level number.counters) out.old at result out.new }
 {
-    let mut text = [0; 12];
-    let end = write_number(number, &mut text);
-    put(out, at, &text[0..end])
-}
-
-// Writes a point and a counter.
-fn write_next(counter: u8, out: &mut [u8], at: usize) -> usize
-    requires { at + 4 ≤ length out.old }
-    ensures end { result ≡ at + length (46 ∷ decimal counter) }
-    ensures after { out.new ≡ written out.old at (46 ∷ decimal counter) }
-{
-    let end = write(out, at, b".");
-    write_decimal(counter as u16, out, end)
-}
-
-// Writes the number of a heading at the front of a buffer that holds any.
-fn write_number(number: HeadingNumber, out: &mut [u8]) -> usize
-    requires { 12 ≤ length out.old }
-    ensures end { result ≡ length (number_text number.level number.counters) }
-    ensures after { out.new ≡ written out.old 0 (number_text number.level number.counters) }
-    ensures bound { result ≤ 12 }
-{
-    if number.level == 0 {
-        return write_decimal(0, out, 0);
-    }
-    let end = write_decimal(number.counters.first as u16, out, 0);
-    if number.level == 1 {
-        return end;
-    }
-    let end = write_next(number.counters.second, out, end);
-    if number.level == 2 {
-        return end;
-    }
-    write_next(number.counters.third, out, end)
+    put(out, at, number.text().as_slice())
 }

@@ -1,12 +1,12 @@
 -- Names stay apart when a new one is added.
-use Rattle.std.proofs.Common.{◌≡◌, ℕ, Bool, true, false, cond, not, List, [], ◌∷◌, ◌++◌, is_some, Some, None, Option, sym, refl, ap, ◌∙◌, arith}
+use Rattle.std.proofs.Common.{◌≡◌, ℕ, Bool, true, false, cond, not, List, [], ◌∷◌, ◌++◌, is_some, Some, None, Ok, Err, Option, sym, refl, ap, ◌∙◌, arith}
 use Rattle.std.specs.Str.{bytes_eq}
 use Rattle.std.proofs.lemmas.Slice.Eq.{bytes_eq-Decides}
 use Rattle.std.proofs.lemmas.Bool.{and_parts, and_from}
 use Rattle.std.proofs.lemmas.Bool.Decides.{same_from_decides, Decides-like}
 use Rattle.record.specs.Positions.{Label}
 use Rattle.record.specs.Labels.{later, place_of, distinct}
-use Rattle.record.specs.Lists.{Lists, with_label, Changes}
+use Rattle.record.specs.Lists.{Lists, Answer, with_label, Changes}
 
 pub same_either_way : (a b : List ℕ) → bytes_eq a b ≡ bytes_eq b a
 same_either_way a b = same_from_decides _ _ (bytes_eq-Decides a b) (Decides-like _ sym sym (bytes_eq-Decides b a))
@@ -40,9 +40,9 @@ none_is_left o None b e s f = refl
 none_is_left o (Some i) b e s f = absurd (let z : ◌≡◌ {A = ℕ} 0 1 = cc in omega arith)
 
 -- whether the label was added or not
-pub changes_apart : (r : Bool) (P : Type 0) (ls after : Lists) (l : Label) → Changes r P (with_label ls l) ls after → place_of l.name ls.labels ≡ None → distinct ls.labels ≡ true → distinct after.labels ≡ true
-changes_apart true P ls after l h e d = ap (λ (x : Lists). distinct x.labels) h.1 ∙ distinct_push ls.labels l e d
-changes_apart false P ls after l h e d = ap (λ (x : Lists). distinct x.labels) h.1 ∙ d
+pub changes_apart : (r answer : Answer) (ls after : Lists) (l : Label) → Changes r answer (with_label ls l) ls after → place_of l.name ls.labels ≡ None → distinct ls.labels ≡ true → distinct after.labels ≡ true
+changes_apart (Ok u) answer ls after l h e d = ap (λ (x : Lists). distinct x.labels) h.1 ∙ distinct_push ls.labels l e d
+changes_apart (Err f) answer ls after l h e d = ap (λ (x : Lists). distinct x.labels) h.1 ∙ d
 
 absent_inside : (n : List ℕ) (xs : List Label) (l : Label) (ys : List Label) → place_of n (xs ++ (l ∷ ys)) ≡ None → bytes_eq l.name n ≡ false
 absent_inside n [] l ys e = (none_parts _ (place_of n ys) e).0

@@ -1,34 +1,20 @@
 -- A name's bytes in their array, and what the rule of a name says of their number.
-use Rattle.std.proofs.Common.{◌≡◌, ℕ, ◌+◌, ◌-◌, ◌<◌, ◌≤◌, true, false, ◌&&◌, eqb, ltb, leb, List, [], ◌∷◌, length, take, drop, replicate, sym, refl, ap, ◌∙◌, ⊎_elim, arith, take_at, drop_at}
+use Rattle.std.proofs.Common.{◌≡◌, ℕ, ◌+◌, ◌-◌, ◌<◌, ◌≤◌, true, ◌&&◌, eqb, ltb, leb, List, [], ◌∷◌, Ok, Err, Result, is_ok, length, take, drop, replicate, sym, ap, ◌∙◌, ⊎_elim, arith, take_at, drop_at}
 use Rattle.std.proofs.lemmas.List.{drop-replicate}
 use Rattle.std.proofs.lemmas.Bool.{cond_both, and_parts, ltb-true, leb-true, eqb-true, cond-true, cond-false, cases_Bool, false≢true}
 use Rattle.std.specs.List.{prefix_len, AllByRecursion}
 use Rattle.std.proofs.lemmas.Bool.Decides.{nat_tests}
 use Rattle.buffers.specs.Written.{written}
 use Rattle.buffers.proofs.Writing.{length_written}
-use Rattle.names.specs.Name.{naming, name_byte}
-use Rattle.names.specs.declared.Naming.{Naming}
-use Rattle.names.specs.declared.Naming.TheVariants.{Right, WrongLength, WrongCharacter}
-use Rattle.record.specs.Right.{name_ok, is_right}
-
-pub right_ok : (bs : List ℕ) → Right ≡ naming bs → name_ok bs ≡ true
-unfolding name_ok
-right_ok bs e = ap is_right (sym e)
-
-wrong : (v : Naming) → (v ≡ Right → ⊥) → is_right v ≡ false
-wrong Right h = absurd (h refl)
-wrong WrongLength h = refl
-wrong WrongCharacter h = refl
-
-pub wrong_ok : (bs : List ℕ) (v : Naming) → v ≡ naming bs → (v ≡ Right → ⊥) → name_ok bs ≡ false
-unfolding name_ok
-wrong_ok bs v e h = ap is_right (sym e) ∙ wrong v h
+use Rattle.names.specs.Name.{name_byte}
+use Rattle.names.specs.declared.NameError.{NameError}
+use Rattle.names.specs.declared.NameError.TheVariants.{WrongLength, WrongCharacter}
+use Rattle.record.specs.Right.{name_ok}
 
 pub name_length : (bs : List ℕ) → name_ok bs ≡ true → (1 ≤ length bs) × (length bs ≤ 16)
 unfolding name_ok
 name_length bs =
-    let P : Naming → Type 0 = λ v. is_right v ≡ true → (1 ≤ length bs) × (length bs ≤ 16) in
-    cond_both (ltb 0 (length bs) && leb (length bs) 16) _ WrongLength P
+    cond_both (ltb 0 (length bs) && leb (length bs) 16) _ (Err WrongLength) (λ (v : Result (Unit {0}) NameError). is_ok v ≡ true → (1 ≤ length bs) × (length bs ≤ 16))
     (λ t _. let h = and_parts _ _ t in (ltb-true 0 _ h.0, leb-true _ 16 h.1))
     (λ _ e. absurd (false≢true e))
 
@@ -63,7 +49,7 @@ all_small (b ∷ bs) e =
 pub name_bytes_small : (bs : List ℕ) → name_ok bs ≡ true → AllByRecursion (λ b. b < 256) bs
 unfolding name_ok
 name_bytes_small bs =
-    let P : Naming → Type 0 = λ v. is_right v ≡ true → AllByRecursion (λ b. b < 256) bs in
-    cond_both (ltb 0 (length bs) && leb (length bs) 16) _ WrongLength P
-    (λ _. cond_both (eqb (prefix_len name_byte bs) (length bs)) Right WrongCharacter P (λ t _. all_small bs (eqb-true _ _ t)) (λ _ e. absurd (false≢true e)))
+    let P : Result (Unit {0}) NameError → Type 0 = λ v. is_ok v ≡ true → AllByRecursion (λ b. b < 256) bs in
+    cond_both (ltb 0 (length bs) && leb (length bs) 16) _ (Err WrongLength) P
+    (λ _. cond_both (eqb (prefix_len name_byte bs) (length bs)) (Ok tt) (Err WrongCharacter) P (λ t _. all_small bs (eqb-true _ _ t)) (λ _ e. absurd (false≢true e)))
     (λ _ e. absurd (false≢true e))

@@ -1,47 +1,47 @@
 -- The steps of the search for a name.
-use Rattle.std.proofs.Common.{◌≡◌, ℕ, ◌+◌, ◌<◌, ◌≤◌, Bool, true, false, cond, List, ◌∷◌, map, length, get_or, drop, Some, None, Decides, Option, sym, refl, ap, ◌∙◌, add-zero, add_assoc, zero-add}
+use Rattle.std.proofs.Common.{◌≡◌, ℕ, ◌+◌, Bool, true, false, ltb, cond, nat_eq, ◌&&◌, List, [], ◌∷◌, map, length, take, Some, None, Option, sym, refl, ap, ◌∙◌, add-zero, add_assoc, zero-add}
+use Rattle.std.specs.List.{position_from, position_or_len}
+use Rattle.std.proofs.lemmas.Iterator.Adapters.{position_from-zero}
+use Rattle.std.specs.Cmp.Lexicographic.{pointwise}
 use Rattle.std.specs.Str.{bytes_eq}
 use Rattle.std.proofs.lemmas.Slice.Eq.{bytes_eq-Decides}
-use Rattle.std.proofs.lemmas.List.{drop_more, drop_all}
-use Rattle.std.proofs.lemmas.Bool.Decides.{same_from_decides, Decides-like}
+use Rattle.std.proofs.lemmas.Bool.Decides.{same_from_decides, Decides-like, Decides-and, Decides-eqb}
 use Rattle.record.specs.Naming.{name_bytes}
 use Rattle.record.specs.Labels.{later, place_of}
 use Rattle.record.specs.Meaning.{label_of}
 use Rattle.record.specs.declared.name.Name.{Name}
-use Rattle.record.specs.declared.entry.LabelEntry.{LabelEntry}
+use Rattle.record.specs.declared.entry.label.LabelEntry.{LabelEntry}
 use Rattle.record.specs.Same.{name_by_bytes}
 
--- equal names are those with equal bytes
-pub name_test : (x y : Name) (r : Bool) → Decides r (x ≡ y) → bytes_eq (name_bytes x) (name_bytes y) ≡ r
-name_test x y r d =
-    same_from_decides (bytes_eq (name_bytes x) (name_bytes y)) r (bytes_eq-Decides _ _)
-    (Decides-like r (ap name_bytes) (name_by_bytes x y) d)
+-- whether a label's name is equal to a name, as the code tests it
+abbrev pub named : Name → LabelEntry → Bool
+named n e = pointwise nat_eq e.name.bytes n.bytes && nat_eq e.name.len n.len
 
-pub later_none : (o : Option ℕ) → later 0 o ≡ o
-later_none None = refl
-later_none (Some i) = ap (λ k. Some k) (zero-add i)
+-- equal names are those with equal bytes
+named_is : (n : Name) (e : LabelEntry) → named n e ≡ bytes_eq (name_bytes e.name) (name_bytes n)
+named_is n e =
+    same_from_decides _ _
+    (Decides-like _ (λ p i. take (p.1 i) (p.0 i)) (λ b. let s = name_by_bytes e.name n b in (ap (λ x. x.bytes) s, ap (λ x. x.len) s)) (Decides-and _ _ (bytes_eq-Decides e.name.bytes n.bytes) (Decides-eqb e.name.len n.len)))
+    (bytes_eq-Decides (name_bytes e.name) (name_bytes n))
 
 later_more : (n : ℕ) (o : Option ℕ) → later n (later 1 o) ≡ later (n + 1) o
 later_more n None = refl
 later_more n (Some i) = ap (λ k. Some k) (sym (add_assoc n 1 i))
 
--- x stands at i
-module _ (es : List LabelEntry) (n : List ℕ) (i : ℕ) where
-  module _ (x : LabelEntry) (h : i < length es) (rx : x ≡ get_or es i x) where
-    at_place : drop i es ≡ x ∷ drop (i + 1) es
-    at_place = drop_more es i x h ∙ ap (λ y. y ∷ drop (i + 1) es) (sym rx)
+later_none : (o : Option ℕ) → later 0 o ≡ o
+later_none None = refl
+later_none (Some i) = ap (λ k. Some k) (zero-add i)
 
-    pub found_here : bytes_eq (name_bytes x.name) n ≡ true → later i (place_of n (map label_of (drop i es))) ≡ Some i
-    found_here t =
-        ap (λ l. later i (place_of n (map label_of l))) at_place
-        ∙ ap (λ b. later i (cond b (Some 0) (later 1 (place_of n (map label_of (drop (i + 1) es)))))) t
-        ∙ ap (λ k. Some k) (add-zero i)
+here : (b : Bool) (i : ℕ) (p q : Option ℕ) → p ≡ later i (later 1 q) → cond b (Some i) p ≡ later i (cond b (Some 0) (later 1 q))
+here true i p q e = ap (λ k. Some k) (sym (add-zero i))
+here false i p q e = e
 
-    pub not_here : bytes_eq (name_bytes x.name) n ≡ false → later (i + 1) (place_of n (map label_of (drop (i + 1) es))) ≡ later i (place_of n (map label_of (drop i es)))
-    not_here t =
-        sym (later_more i _)
-        ∙ ap (λ b. later i (cond b (Some 0) (later 1 (place_of n (map label_of (drop (i + 1) es)))))) (sym t)
-        ∙ ap (λ l. later i (place_of n (map label_of l))) (sym at_place)
+-- a search that has come to i
+place_from : (n : Name) (i : ℕ) (es : List LabelEntry) → position_from (named n) i es ≡ later i (place_of (name_bytes n) (map label_of es))
+place_from n i [] = refl
+place_from n i (x ∷ es) =
+    ap (λ b. cond b (Some i) (position_from (named n) (i + 1) es)) (named_is n x)
+    ∙ here (bytes_eq (name_bytes x.name) (name_bytes n)) i _ _ (place_from n (i + 1) es ∙ sym (later_more i _))
 
-  pub nowhere : length es ≤ i → later i (place_of n (map label_of (drop i es))) ≡ None
-  nowhere h = ap (λ l. later i (place_of n (map label_of l))) (drop_all i es h)
+pub place : (n : Name) (es : List LabelEntry) → cond (ltb (position_or_len (named n) es) (length es)) (Some (position_or_len (named n) es)) None ≡ place_of (name_bytes n) (map label_of es)
+place n es = position_from-zero (named n) es ∙ place_from n 0 es ∙ later_none _

@@ -1,10 +1,11 @@
 -- Tables that mean the same hold the same entries.
-use Rattle.std.proofs.Common.{◌≡◌, ℕ, Bool, List, [], ◌∷◌, map, Decides, sym, refl, ap, ◌∙◌, arith}
+use Rattle.std.proofs.Common.{◌≡◌, ℕ, Bool, true, false, List, [], ◌∷◌, map, Decides, sym, refl, ap, ◌∙◌, arith}
+use Rattle.std.proofs.lemmas.Bool.{false≢true}
 use Rattle.std.proofs.lemmas.Bool.Decides.{Decides-like}
 use Rattle.record.specs.Lists.{Lists}
 use Rattle.record.specs.Meaning.{label_of, position_of}
-use Rattle.record.specs.declared.entry.ContentsEntry.{ContentsEntry}
-use Rattle.record.specs.declared.entry.LabelEntry.{LabelEntry}
+use Rattle.record.specs.declared.entry.contents.ContentsEntry.{ContentsEntry}
+use Rattle.record.specs.declared.entry.label.LabelEntry.{LabelEntry}
 use Rattle.record.specs.Same.{label_by_value, contents_by_value}
 
 pub lists_same : (a b : Lists) → a.labels ≡ b.labels → a.contents ≡ b.contents → a ≡ b
@@ -33,3 +34,11 @@ decides_contents = decides_mapped position_of contents_by_value
 -- the same test of the same lists under other names
 pub decides_lists : {X : Type 0} {a b p q : List X} {r : Bool} → a ≡ p → b ≡ q → Decides r (a ≡ b) → Decides r (p ≡ q)
 decides_lists e f d = (λ t. sym e ∙ d.0 t ∙ f, λ s. d.1 (e ∙ s ∙ sym f))
+
+-- two lists are tested one after the other
+module _ (a b : Lists) (r : Bool) (d : Decides r (a.labels ≡ b.labels)) where
+  pub decides_both : (s : Bool) → r ≡ true → Decides s (a.contents ≡ b.contents) → Decides s (a ≡ b)
+  decides_both s t e = (λ u. lists_same a b (d.0 t) (e.0 u), λ w. e.1 (ap (λ l. l.contents) w))
+
+  pub decides_first : r ≡ false → Decides r (a ≡ b)
+  decides_first f = (λ t. absurd (false≢true (sym f ∙ t)), λ w. d.1 (ap (λ l. l.labels) w))

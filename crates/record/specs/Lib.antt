@@ -7,4 +7,4 @@ pub mod Lists
 pub mod Differ
 pub mod Records
 pub mod Same
-pub mod Sameness
+pub mod Filling

@@ -6,14 +6,14 @@ use Rattle.std.specs.Prelude.{ℕ}
 use Rattle.numerals.specs.declared.heading.HeadingNumber.{HeadingNumber}
 use Rattle.record.specs.Naming.{name_bytes}
 use Rattle.record.specs.Positions.{Label, Position}
-use Rattle.record.specs.declared.entry.LabelEntry.{LabelEntry}
-use Rattle.record.specs.declared.entry.ContentsEntry.{ContentsEntry}
+use Rattle.record.specs.declared.entry.label.LabelEntry.{LabelEntry}
+use Rattle.record.specs.declared.entry.contents.ContentsEntry.{ContentsEntry}
 
 abbrev pub placed : HeadingNumber → ℕ → Position
 placed n p = record { level = n.level; counters = n.counters; page = p }
 
 abbrev pub label_of : LabelEntry → Label
-label_of e = record { name = name_bytes e.name; position = placed e.number e.page }
+label_of e = record { name = name_bytes e.name; position = placed e.number e.page.number }
 
 abbrev pub position_of : ContentsEntry → Position
-position_of e = placed e.number e.page
+position_of e = placed e.number e.page.number

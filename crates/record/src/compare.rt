@@ -1,34 +1,17 @@
 // The comparison of two lists of entries.
-ghost use Rattle.std.specs.Prelude.{◌≡◌, ◌+◌, ◌<◌, ◌≤◌, length, take, Decides, ◌≢◌};
-ghost use Rattle.record.specs.Differ.{FirstDifference};
+ghost use Rattle.std.specs.Prelude.{◌≡◌, Decides};
+ghost use Rattle.record.specs.Differ.{agreed, FirstDifference};
 
-// What can stand in a record's list. `equal` is what equality of two entries means, and it is equality of the values.
-pub trait Entry: Sized {
-    ghost equal: { Self → Self → Type 0 };
+use numerals::Exact;
 
-    fn matches(&self, other: &Self) -> bool
-        ensures { Decides result (equal self.now other.now) };
-
-    ghost exact: { (x y : Self) → equal x y → x ≡ y };
-
-    ghost whole: { (x : Self) → equal x x };
-}
+// What can stand in a record's list: its equality is that of the values.
+pub trait Entry: Exact {}
 
 // How many entries the two lists have in common at the front.
 fn agreement<E: Entry>(a: &[E], b: &[E]) -> usize
-    ensures within { (result ≤ length a.now) × (result ≤ length b.now) }
-    ensures front { take result a.now ≡ take result b.now }
-    ensures whole { length a.now ≤ result → length b.now ≤ result → a.now ≡ b.now }
-    ensures left { result < length a.now → take (result + 1) a.now ≢ take (result + 1) b.now }
-    ensures right { result < length b.now → take (result + 1) a.now ≢ take (result + 1) b.now }
+    ensures { result ≡ agreed E.PartialEq.eq a.now b.now }
 {
-    let n = a.len().min(b.len());
-    for i in 0..n {
-        if !a[i].matches(&b[i]) {
-            return i;
-        }
-    }
-    n
+    a.iter().zip(b).take_while(|(x, y)| x == y).count()
 }
 
 // The first place at which the two lists differ, where one may end before the other; none where they are equal.
@@ -36,21 +19,16 @@ pub fn first_difference<E: Entry>(a: &[E], b: &[E]) -> Option<usize>
     ensures { FirstDifference a.now b.now result }
 {
     let n = agreement(a, b);
-    if n < a.len() {
-        return Some(n);
+    if n < a.len() || n < b.len() {
+        Some(n)
+    } else {
+        None
     }
-    if n < b.len() {
-        return Some(n);
-    }
-    None
 }
 
 // Whether the two lists are equal.
 pub fn equal_lists<E: Entry>(a: &[E], b: &[E]) -> bool
     ensures { Decides result (a.now ≡ b.now) }
 {
-    match first_difference(a, b) {
-        None => true,
-        Some(_) => false,
-    }
+    first_difference(a, b).is_none()
 }

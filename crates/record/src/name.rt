@@ -4,7 +4,8 @@ ghost use Rattle.record.specs.Right.{name_ok};
 
 mod makes;
 
-#[derive(Clone, Copy)]
+// Bytes with their number beside, and no `ArrayVec`: a name is copied, which no `ArrayVec` is.
+#[derive(Clone, Copy, Debug, PartialEq, Eq)]
 pub struct Name {
     bytes: [u8; 16],
     len: u8,

@@ -1,27 +1,34 @@
 // How a heading's number is made.
-ghost use Rattle.std.specs.Prelude.{◌≡◌, Decides};
+ghost use Rattle.std.specs.Prelude.{◌≡◌};
+ghost use Rattle.std.proofs.Common.{rules};
+ghost use Rattle.numerals.specs.Same.{number_same};
 ghost use Rattle.numerals.specs.Heading.{Numbers};
 ghost use Rattle.numerals.specs.Sound.{number_ok};
-ghost use Rattle.std.specs.Cmp.Rules.{comparing};
-ghost use Rattle.std.proofs.Common.{rules};
-ghost use Rattle.numerals.specs.Sameness.{same_number};
 
 use super::HeadingNumber;
 use crate::counters::Counters;
+use crate::exact::Exact;
 
-// Whether the counters are as the level asks. No `&&`: every way that parts would be one more case to prove.
+// Whether the counters are as the level asks: that of the level is at least 1, those after it are 0, and none is over 128.
+#[tactic(auto, using(std::proofs::lemmas::Bool::Decides::nat_tests), unfolding(crate::specs::Sound::number_ok))]
 fn number_ok(level: u8, counters: Counters) -> bool
     ensures { result ≡ number_ok level counters }
 {
-    let a = counters.first;
-    let b = counters.second;
-    let c = counters.third;
-    let few = (a <= 128) & ((b <= 128) & (c <= 128));
-    let before = (level == 0) & ((a == 0) & ((b == 0) & (c == 0)));
-    let one = (level == 1) & ((a >= 1) & ((b == 0) & (c == 0)));
-    let two = (level == 2) & ((b >= 1) & (c == 0));
-    let three = (level == 3) & (c >= 1);
-    few & (before | (one | (two | three)))
+    let Counters {
+        first,
+        second,
+        third,
+    } = counters;
+    if first > 128 || second > 128 || third > 128 {
+        return false;
+    }
+    match level {
+        0 => first == 0 && second == 0 && third == 0,
+        1 => first >= 1 && second == 0 && third == 0,
+        2 => second >= 1 && third == 0,
+        3 => third >= 1,
+        _ => false,
+    }
 }
 
 impl HeadingNumber {
@@ -37,6 +44,7 @@ impl HeadingNumber {
     }
 
     // The number before any heading.
+    #[tactic(auto, unfolding(crate::specs::Sound::number_ok))]
     pub fn before_any() -> HeadingNumber
         ensures { (result.level ≡ 0) × (result.counters ≡ record { first = 0; second = 0; third = 0 }) }
     {
@@ -51,15 +59,8 @@ impl HeadingNumber {
     }
 }
 
-impl PartialEq for HeadingNumber {
-    ghost eq = { same_number };
+impl Exact for HeadingNumber {
+    ghost exact = { λ x y e. number_same x y (Prim.search rules) (Prim.search rules) };
 
-    ghost laws = { Prim.search (comparing, rules) };
-
-    fn eq(&self, other: &HeadingNumber) -> bool
-        ensures value { result ≡ same_number self.now other.now }
-        ensures decides { Decides result (self.now ≡ other.now) }
-    {
-        self.level == other.level && self.counters == other.counters
-    }
+    ghost whole = { Prim.search rules };
 }

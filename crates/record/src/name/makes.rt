@@ -1,23 +1,14 @@
-// How a name is made of bytes, read and compared.
-ghost use Rattle.std.specs.Prelude.{◌≡◌, true, Decides};
+// How a name is made of bytes and read.
+ghost use Rattle.std.specs.Prelude.{◌≡◌, true};
+ghost use Rattle.std.proofs.Common.{rules};
 ghost use Rattle.record.specs.Naming.{Named, name_bytes};
 ghost use Rattle.record.specs.Right.{name_ok};
-ghost use Rattle.record.specs.Sameness.{same_name};
-ghost use Rattle.std.specs.Cmp.Rules.{comparing};
-ghost use Rattle.std.proofs.Common.{rules};
+ghost use Rattle.record.specs.Same.{name_same};
 
 use super::Name;
 use buffers::write;
-use names::{Naming, named};
-
-fn is_name(text: &[u8]) -> bool
-    ensures { result ≡ name_ok text.now }
-{
-    match named(text) {
-        Naming::Right => true,
-        _ => false,
-    }
-}
+use names::named;
+use numerals::Exact;
 
 // The name with these bytes, which are one, and zeros behind them.
 fn padded(text: &[u8]) -> Name
@@ -34,10 +25,11 @@ fn padded(text: &[u8]) -> Name
 
 impl Name {
     // The name with these bytes, if they are one.
+    #[tactic(auto, unfolding(crate::specs::Right::name_ok))]
     pub fn new(text: &[u8]) -> Option<Name>
         ensures { Named text.now result }
     {
-        if !is_name(text) {
+        if named(text).is_err() {
             return None;
         }
         Some(padded(text))
@@ -51,15 +43,8 @@ impl Name {
     }
 }
 
-impl PartialEq for Name {
-    ghost eq = { same_name };
+impl Exact for Name {
+    ghost exact = { λ x y e. name_same x y (Prim.search rules) (Prim.search rules) };
 
-    ghost laws = { Prim.search (comparing, rules) };
-
-    fn eq(&self, other: &Name) -> bool
-        ensures value { result ≡ same_name self.now other.now }
-        ensures decides { Decides result (self.now ≡ other.now) }
-    {
-        self.len == other.len && self.bytes == other.bytes
-    }
+    ghost whole = { Prim.search rules };
 }

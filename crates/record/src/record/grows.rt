@@ -7,6 +7,7 @@ ghost use Rattle.record.specs.Records.{record_lists};
 
 use super::Record;
 use crate::entry::{ContentsEntry, LabelEntry};
+use crate::error::EntryError;
 use crate::table::Table;
 use std::alloc::{AllocError, Global};
 
@@ -33,18 +34,18 @@ impl Record {
         self.table.same(&other.table)
     }
 
-    // Adds a label entry at the end. Answers whether its name is new and there was room.
-    pub fn add_label(&mut self, entry: LabelEntry) -> bool
+    // Adds a label entry at the end, if its name is new and there is room.
+    pub fn add_label(&mut self, entry: LabelEntry) -> Result<(), EntryError>
         ensures { AddsNewLabel result (record_lists self.old) (label_of entry) (record_lists self.new) }
     {
         if self.table.find(&entry.name).is_some() {
-            return false;
+            return Err(EntryError::Repeated);
         }
         self.table.add_label(entry)
     }
 
-    // Adds a contents entry at the end. Answers whether there was room.
-    pub fn add_contents(&mut self, entry: ContentsEntry) -> bool
+    // Adds a contents entry at the end, if there is room.
+    pub fn add_contents(&mut self, entry: ContentsEntry) -> Result<(), EntryError>
         ensures { AddsHeading result (record_lists self.old) (position_of entry) (record_lists self.new) }
     {
         self.table.add_contents(entry)

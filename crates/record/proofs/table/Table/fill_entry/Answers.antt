@@ -7,9 +7,6 @@ use Rattle.record.proofs.table.Table.fill_entry.Goals as goal
 
 pub returns : goal.returns
 returns c =
-    let v = c.args.self.now.labels in
-    let within : c.args.i < length v.items = omega (arith, v.ok.0) in
-    record {
-      place = omega (arith, length-map v.items label_of);
-      after = lists_same _ _ (filled v.items c.args.i c.entry-entry.result.now _ within c.entry-entry.ensures.facts refl) refl;
-    }
+    let items = c.args.self.now.labels.list.items in
+    let within : c.args.i < length items = omega (arith, length-map items label_of) in
+    lists_same _ _ (filled items c.args.i c.entry-entry.result.now _ within c.entry-entry.ensures.facts refl) refl
