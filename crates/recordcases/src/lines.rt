@@ -4,6 +4,7 @@ use std::alloc::{AllocError, Global};
 use std::test::Fail;
 
 // The number and the line of the refusal; none where the lines load and saving gives them back.
+// A number of 0 is no refusal and a line of 0 no line: an enum would only repeat the pair that each case spells.
 fn refusal(heap: Global, lines: &[u8]) -> Option<(u8, usize)> {
     let mut out = [0; 8192];
     match load(heap, lines) {
@@ -11,7 +12,7 @@ fn refusal(heap: Global, lines: &[u8]) -> Option<(u8, usize)> {
             Ok(end) if out.get(0..end) == Some(lines) => None,
             _ => Some((0, 0)),
         },
-        Err(LoadError::Refused(fault)) => Some((fault.cause.number(), fault.line)),
+        Err(LoadError::Refused(fault)) => Some((fault.cause.number(), fault.line.unwrap_or(0))),
         Err(LoadError::NoMemory) => Some((0, 0)),
     }
 }

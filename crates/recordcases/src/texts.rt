@@ -4,10 +4,8 @@ use numerals::{Counters, HeadingNumber, NumeralStyle, heading_number, page_numer
 // Whether a page prints as this text, between bytes that stay.
 fn prints(style: NumeralStyle, page: u16, text: &[u8]) -> bool {
     let mut out = [b'*'; 16];
-    match page_numeral(style, page, &mut out, 1) {
-        Some(end) => out.get(1..end) == Some(text) && out[0] == b'*' && out[15] == b'*',
-        None => false,
-    }
+    let end = page_numeral(style, page, &mut out, 1);
+    end.is_some_and(|end| out.get(1..end) == Some(text) && out[0] == b'*' && out[15] == b'*')
 }
 
 // Whether a heading's number prints as this text.
@@ -18,13 +16,9 @@ fn numbers(level: u8, first: u8, second: u8, third: u8, text: &[u8]) -> bool {
         third,
     };
     let mut out = [0; 16];
-    match HeadingNumber::new(level, counters) {
-        Some(number) => match heading_number(number, &mut out, 0) {
-            Some(end) => out.get(0..end) == Some(text),
-            None => false,
-        },
-        None => false,
-    }
+    let number = HeadingNumber::new(level, counters);
+    let end = number.and_then(|number| heading_number(number, &mut out, 0));
+    end.is_some_and(|end| out.get(0..end) == Some(text))
 }
 
 #[test]

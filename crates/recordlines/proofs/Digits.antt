@@ -4,6 +4,10 @@ use Rattle.std.specs.List.{AllByRecursion}
 use Rattle.std.proofs.lemmas.Bool.{cond-true, cond-false, cases_Bool, and_parts, leb-true, le-leb, lt-leb, lt-ltb, le-ltb, ltb-true, ltb-false, and_from, and_right}
 use Rattle.recordlines.specs.Hex.{hex, hex_pair, hex_digit_lem, digit_value, both, pair_value_lem, after, then, bytes_of}
 
+-- values that two constructors made are not one
+pub clash : {X : Type 0} → ◌≡◌ {A = ℕ} 0 1 → X
+clash e = absurd (omega (arith, e))
+
 abbrev pub Byte : ℕ → Type 0
 Byte b = b < 256
 
@@ -28,7 +32,7 @@ value_digit a v e =
     let is : Some v ≡ Some (a - 55) = sym rest ∙ cond-true _ _ _ t in
     let n : v ≡ a - 55 = cc in
     (omega arith, cond-false _ _ _ (le-ltb v 10 (omega arith)) ∙ omega arith))
-    (λ g. absurd (let is : None ≡ Some v = sym (cond-false _ _ _ g) ∙ rest in let z : ◌≡◌ {A = ℕ} 0 1 = cc in omega arith))
+    (λ g. absurd (let is : None ≡ Some v = sym (cond-false _ _ _ g) ∙ rest in clash cc))
     (cases_Bool (leb 65 a && leb a 70)))
     (cases_Bool (leb 48 a && leb a 57))
 
@@ -50,8 +54,8 @@ digit_valued v h =
     (cases_Bool (ltb v 10))
 
 both_some : (h l : Option ℕ) (b : ℕ) → both h l ≡ Some b → (x : ℕ) × (y : ℕ) × (h ≡ Some x) × (l ≡ Some y) × (b ≡ x * 16 + y)
-both_some None l b e = absurd (let z : ◌≡◌ {A = ℕ} 0 1 = cc in omega arith)
-both_some (Some x) None b e = absurd (let z : ◌≡◌ {A = ℕ} 0 1 = cc in omega arith)
+both_some None l b e = clash cc
+both_some (Some x) None b e = clash cc
 both_some (Some x) (Some y) b e = (x, y, refl, refl, (let q : b ≡ x * 16 + y = cc in q))
 
 pub value_pair : (a b x : ℕ) → pair_value_lem a b ≡ Some x → (x < 256) × (hex_pair x ≡ a ∷ b ∷ [])
@@ -71,17 +75,17 @@ pair_valued x h =
     (λ i. both (digit_valued (x / 16) (omega arith) i) (digit_valued (x % 16) (omega arith) i)) ∙ ap (λ n. Some n) (div-add-mod' x 16)
 
 after_some : (xs : List ℕ) (r : Option (List ℕ)) (ys : List ℕ) → after xs r ≡ Some ys → (zs : List ℕ) × (r ≡ Some zs) × (ys ≡ xs ++ zs)
-after_some xs None ys e = absurd (let z : ◌≡◌ {A = ℕ} 0 1 = cc in omega arith)
+after_some xs None ys e = clash cc
 after_some xs (Some zs) ys e = (zs, refl, (let q : ys ≡ xs ++ zs = cc in q))
 
 then_some : (o : Option ℕ) (r : Option (List ℕ)) (ys : List ℕ) → then o r ≡ Some ys → (b : ℕ) × (zs : List ℕ) × (o ≡ Some b) × (r ≡ Some zs) × (ys ≡ b ∷ zs)
-then_some None r ys e = absurd (let z : ◌≡◌ {A = ℕ} 0 1 = cc in omega arith)
+then_some None r ys e = clash cc
 then_some (Some b) r ys e = let s = after_some (b ∷ []) r ys e in (b, s.0, refl, s.1, s.2)
 
 -- digits that spell bytes are the digits of these
 pub bytes_spelled : (ds f : List ℕ) → bytes_of ds ≡ Some f → (hex f ≡ ds) × AllByRecursion Byte f
 bytes_spelled [] f e = let n : f ≡ [] = cc in (ap hex n, subst (AllByRecursion Byte) (sym n) tt)
-bytes_spelled (a ∷ []) f e = absurd (let z : ◌≡◌ {A = ℕ} 0 1 = cc in omega arith)
+bytes_spelled (a ∷ []) f e = clash cc
 bytes_spelled (a ∷ b ∷ ds) f e =
     let s = then_some (pair_value_lem a b) (bytes_of ds) f e in
     let p = value_pair a b s.0 s.2 in

@@ -1,14 +1,14 @@
 -- What saving writes loads as the same lists.
-use Rattle.std.proofs.Common.{◌≡◌, ℕ, suc, ◌+◌, ◌/◌, ◌%◌, ◌<◌, ◌≤◌, true, false, eqb, ltb, leb, List, [], ◌∷◌, ◌++◌, length, Some, sym, refl, ap, ◌∙◌, subst, append_assoc, append-nil, add-zero, div-add-mod', arith, length-append, take_at, drop_at}
+use Rattle.std.proofs.Common.{◌≡◌, ℕ, suc, ◌+◌, ◌/◌, ◌%◌, ◌<◌, ◌≤◌, true, false, eqb, ltb, leb, List, [], ◌∷◌, ◌++◌, length, is_ok, Some, Ok, Err, Result, sym, refl, ap, ◌∙◌, subst, append_assoc, append-nil, add-zero, div-add-mod', arith, length-append, take_at, drop_at}
 use Rattle.std.specs.List.{flat_map, AllByRecursion}
 use Rattle.std.proofs.lemmas.Bool.{cond-true, cond_both, and_parts, and_from, eq-eqb, ne_eqb, le-leb, leb-true}
 use Rattle.names.specs.Name.{naming}
-use Rattle.names.specs.declared.Naming.{Naming}
-use Rattle.names.specs.declared.Naming.TheVariants.{Right, WrongLength, WrongCharacter}
+use Rattle.names.specs.declared.NameError.{NameError}
+use Rattle.names.specs.declared.NameError.TheVariants.{WrongLength, WrongCharacter}
 use Rattle.numerals.specs.Numeral.{is_page}
 use Rattle.numerals.specs.Sound.{number_ok}
 use Rattle.numerals.proofs.Lengths.{level_bound, counters_bound}
-use Rattle.record.specs.Right.{name_ok, is_right}
+use Rattle.record.specs.Right.{name_ok}
 use Rattle.record.specs.Positions.{Position, Label, position_ok, label_ok, heading_ok}
 use Rattle.record.specs.Labels.{distinct}
 use Rattle.record.specs.Lists.{Lists, with_label, with_heading}
@@ -70,10 +70,10 @@ label_like l e =
     let long = length-append l.name (position_bytes_lem l.position) in
     ((omega arith, (omega (arith, n.1), all_both _ _ (name_bytes_small l.name q.0) (position_like l.position q.1))), omega (arith, n.1))
 
-right_sized : (v : Naming) → is_right v ≡ true → sized v ≡ true
-right_sized Right e = refl
-right_sized WrongLength e = e
-right_sized WrongCharacter e = refl
+right_sized : (v : Result (Unit {0}) NameError) → is_ok v ≡ true → sized v ≡ true
+right_sized (Ok u) e = refl
+right_sized (Err WrongLength) e = e
+right_sized (Err WrongCharacter) e = refl
 
 name_right_sized : (bs : List ℕ) → name_ok bs ≡ true → name_sized bs ≡ true
 unfolding name_ok name_sized

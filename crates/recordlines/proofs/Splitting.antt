@@ -1,6 +1,5 @@
 -- The first line of a text, and a text put together again from its lines.
 use Rattle.std.proofs.Common.{◌≡◌, ℕ, suc, ◌+◌, ◌-◌, ◌<◌, ◌≤◌, Bool, false, cond, not, eqb, List, [], ◌∷◌, ◌++◌, length, take, drop, sym, refl, ap, ◌∙◌, subst, ⊎_elim, add-one, one-add, arith, length-drop}
-use native.Mathlib.Nat.{sub-zero}
 use Rattle.std.specs.List.{prefix_len, flat_map, AllByRecursion}
 use Rattle.std.proofs.lemmas.List.{take_rest}
 use Rattle.std.proofs.lemmas.Bool.{cases_Bool, eqb-true}
@@ -53,12 +52,11 @@ first_line (b ∷ bs) h =
 pub no_newline : (bs : List ℕ) (n : ℕ) → n ≡ prefix_len inside bs → length bs ≤ n → split bs ≡ record { whole = []; rest = bs }
 no_newline bs n e h = all_inside bs (omega arith)
 
--- as the parts `[0..n]` and `[n + 1..]` read
-pub next_line_lem : (bs : List ℕ) (n : ℕ) → n ≡ prefix_len inside bs → n < length bs → (split bs ≡ record { whole = take (n - 0) bs ∷ (split (take (length bs - (n + 1)) (drop (n + 1) bs))).whole; rest = (split (take (length bs - (n + 1)) (drop (n + 1) bs))).rest }) × (length (take (length bs - (n + 1)) (drop (n + 1) bs)) < length bs)
+-- as the parts `[..n]` and `[n + 1..]` read
+pub next_line_lem : (bs : List ℕ) (n : ℕ) → n ≡ prefix_len inside bs → n < length bs → (split bs ≡ record { whole = take n bs ∷ (split (take (length bs - (n + 1)) (drop (n + 1) bs))).whole; rest = (split (take (length bs - (n + 1)) (drop (n + 1) bs))).rest }) × (length (take (length bs - (n + 1)) (drop (n + 1) bs)) < length bs)
 next_line_lem bs n e h =
     let rest = take_rest bs (n + 1) ∙ ap (λ k. drop k bs) (add-one n ∙ ap suc e) in (
-      first_line bs (omega arith)
-          ∙ sym (λ i. record { whole = take ((sub-zero n ∙ e) i) bs ∷ (split (rest i)).whole; rest = (split (rest i)).rest }),
+      first_line bs (omega arith) ∙ sym (λ i. record { whole = take (e i) bs ∷ (split (rest i)).whole; rest = (split (rest i)).rest }),
       omega (arith, ap length (take_rest bs (n + 1)), length-drop (n + 1) bs),
     )
 

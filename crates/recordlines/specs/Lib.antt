@@ -4,3 +4,4 @@ pub mod Step
 pub mod Raw
 pub mod Load
 pub mod Save
+pub mod Lines

@@ -6,6 +6,7 @@
 --   Does         what a call that takes a frame answers and leaves
 use Rattle.std.specs.Prelude.{◌≡◌, ℕ, Bool, true, false, List, Some, None, Ok, Err, Option, Result}
 use Rattle.faults.specs.declared.cause.Cause.{Cause}
+use Rattle.faults.specs.declared.cause.Cause.TheVariants.{FrameMalformed}
 use Rattle.record.specs.Lists.{Lists}
 use Rattle.record.specs.Positions.{Position, Label}
 use Rattle.recordlines.specs.Step.{Step, keeps, ends, wrong, position_from}
@@ -19,9 +20,9 @@ raw p = record { level = p.level; counters = p.counters; page = p.page }
 abbrev pub raw_label : List ℕ → RawPosition → Label
 raw_label n p = record { name = n; position = raw p }
 
-abbrev pub Reads : List ℕ → Option RawPosition → Type 0
-Reads bs None = position_from bs ≡ None
-Reads bs (Some p) = position_from bs ≡ Some (raw p)
+abbrev pub Reads : List ℕ → Result RawPosition Cause → Type 0
+Reads bs (Err c) = (position_from bs ≡ None) × (c ≡ FrameMalformed)
+Reads bs (Ok p) = position_from bs ≡ Some (raw p)
 
 abbrev pub Makes : {E X : Type 0} → (X → Bool) → (E → X) → X → Option E → Type 0
 Makes ok of x None = ok x ≡ false

@@ -5,14 +5,15 @@
 --   label_kept, heading_kept    one entry more where it fits, else invalid
 --   step             what a frame does: told by its first byte, malformed before invalid
 --   decoded          the frame of a line's digits; no frame has more than 24 bytes
---   Decodes          what decoding a line into a buffer answers and leaves
+--   Decodes          what decoding a line answers
 --   line_step        what a line does
-use Rattle.std.specs.Prelude.{◌≡◌, ℕ, ◌+◌, ◌*◌, ◌≤◌, Bool, true, false, cond, not, ◌&&◌, List, [], ◌∷◌, length, take, drop, is_some, Some, None, Option, ◌==◌, nat_le, nat_lt, refl}
+use Rattle.std.specs.Prelude.{◌≡◌, ℕ, ◌+◌, ◌*◌, Bool, true, false, cond, not, ◌&&◌, List, [], ◌∷◌, length, take, drop, is_some, Some, None, Ok, Err, Option, Result, ◌==◌, nat_le, nat_lt, refl}
+use Rattle.arrayvec.specs.ArrayVec.{ArrayVec}
 use Rattle.faults.specs.declared.cause.Cause.{Cause}
 use Rattle.faults.specs.declared.cause.Cause.TheVariants.{FrameMalformed, FrameInvalid}
 use Rattle.names.specs.Name.{naming}
-use Rattle.names.specs.declared.Naming.{Naming}
-use Rattle.names.specs.declared.Naming.TheVariants.{Right, WrongLength, WrongCharacter}
+use Rattle.names.specs.declared.NameError.{NameError}
+use Rattle.names.specs.declared.NameError.TheVariants.{WrongLength, WrongCharacter}
 use Rattle.numerals.specs.Sound.{number_ok}
 use Rattle.record.specs.Positions.{Position, Label, label_ok, heading_ok}
 use Rattle.record.specs.Labels.{place_of}
@@ -34,10 +35,10 @@ pub data Step : Type 0 where
   ends : Step
   wrong : Cause → Step
 
-abbrev pub sized : Naming → Bool
-sized Right = true
-sized WrongLength = false
-sized WrongCharacter = true
+abbrev pub sized : Result (Unit {0}) NameError → Bool
+sized (Ok u) = true
+sized (Err WrongLength) = false
+sized (Err WrongCharacter) = true
 
 unfoldable pub name_sized : List ℕ → Bool
 name_sized bs = sized (naming bs)
@@ -88,9 +89,9 @@ step ls (k ∷ rest) =
 abbrev pub decoded : List ℕ → Option (List ℕ)
 decoded digits = cond (nat_le (length digits) 48) (bytes_of digits) None
 
-abbrev pub Decodes : List ℕ → Option ℕ → List ℕ → Type 0
-Decodes digits None after = decoded digits ≡ None
-Decodes digits (Some n) after = (decoded digits ≡ Some (take n after)) × (n ≤ 24)
+abbrev pub Decodes : List ℕ → Option (ArrayVec ℕ) → Type 0
+Decodes digits None = decoded digits ≡ None
+Decodes digits (Some f) = decoded digits ≡ Some f.items
 
 abbrev pub frame_step : Lists → Option (List ℕ) → Step
 frame_step ls None = wrong FrameMalformed

@@ -3,7 +3,9 @@ ghost use Rattle.std.specs.Prelude.{◌≡◌, ◌<◌, IfSome};
 ghost use Rattle.recordlines.specs.Hex.{digit_value, pair_value_lem};
 ghost use Rattle.recordlines.specs.Step.{Decodes};
 
-// The value of an upper-case hexadecimal digit.
+use crate::frames::Frame;
+
+// The value of an upper-case hexadecimal digit. By hand, as the library's `to_digit` takes small letters too.
 fn digit_value(b: u8) -> Option<u8>
     ensures value { result ≡ digit_value b }
     ensures bound { IfSome result (λ v. v < 16) }
@@ -18,28 +20,22 @@ fn digit_value(b: u8) -> Option<u8>
 fn pair_value(high: u8, low: u8) -> Option<u8>
     ensures { result ≡ pair_value_lem high low }
 {
-    match (digit_value(high), digit_value(low)) {
-        (Some(h), Some(l)) => Some(h * 16 + l),
-        _ => None,
-    }
+    let high = digit_value(high)?;
+    let low = digit_value(low)?;
+    Some(high * 16 + low)
 }
 
-// Decodes the digits of a line into the front of `out`, and answers how many bytes they spell.
-pub fn decode(digits: &[u8], out: &mut [u8; 24]) -> Option<usize>
-    ensures { Decodes digits.now result out.new }
+// The frame that the digits of a line spell, if they are pairs and no more than a frame has.
+pub fn decode(digits: &[u8]) -> Option<Frame>
+    ensures { Decodes digits.now result }
 {
     if digits.len() > 48 {
         return None;
     }
-    let mut n = 0;
-    let mut rest = digits;
-    while let [high, low, more @ ..] = rest {
-        let Some(b) = pair_value(*high, *low) else {
-            return None;
-        };
-        out[n] = b;
-        n += 1;
-        rest = more;
+    let mut frame = Frame::new();
+    let (pairs, rest) = digits.as_chunks::<2>();
+    for [high, low] in pairs {
+        frame.push(pair_value(*high, *low)?);
     }
-    if rest.is_empty() { Some(n) } else { None }
+    if rest.is_empty() { Some(frame) } else { None }
 }

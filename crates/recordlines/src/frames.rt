@@ -1,69 +1,80 @@
 // The frames of entries.
-ghost use Rattle.std.specs.Prelude.{◌≡◌, ℕ, ◌≤◌, List, length};
-ghost use Rattle.buffers.specs.Written.{written};
+ghost use Rattle.std.specs.Prelude.{◌≡◌, ℕ, ◌+◌, ◌≤◌, ◌++◌, List, length};
+ghost use Rattle.record.specs.Lists.{lists_of};
 ghost use Rattle.record.specs.Meaning.{label_of, placed, position_of};
-ghost use Rattle.recordlines.specs.Frame.{position_bytes_lem, label_frame, contents_frame};
+ghost use Rattle.recordlines.specs.Frame.{position_bytes_lem, label_frame, contents_frame, end_frame as end_frame_lem};
 
-use buffers::write;
+use arrayvec::ArrayVec;
 use numerals::HeadingNumber;
-use record::{ContentsEntry, LabelEntry};
+use pages::Page;
+use record::{ContentsEntry, LabelEntry, Table};
 
-// What is saved as one frame of at most 24 bytes.
+// Room for any frame.
+pub type Frame = ArrayVec<u8, 24>;
+
+// What is saved as one frame.
 pub trait Framed {
     ghost frame: { Self → List ℕ };
 
-    fn frame_length(&self) -> usize
-        ensures value { result ≡ length (frame self.now) }
-        ensures bound { result ≤ 24 };
+    fn frame(&self) -> Frame
+        ensures { result.items ≡ frame self.now };
+}
 
-    // Writes the frame at the front of a buffer that holds any, and answers its end.
-    fn write_frame(&self, out: &mut [u8]) -> usize
-        requires { 24 ≤ length out.old }
-        ensures end { result ≡ length (frame self.now) }
-        ensures after { out.new ≡ written out.old 0 (frame self.now) }
-        ensures bound { result ≤ 24 };
+// Adds bytes for which there is room.
+fn append(frame: &mut Frame, bytes: &[u8])
+    requires { length frame.old.items + length bytes.now ≤ 24 }
+    ensures { frame.new.items ≡ frame.old.items ++ bytes.now }
+{
+    frame.try_extend_from_slice(bytes).unwrap();
 }
 
 // Level, counters, page high, page low.
-fn position_bytes(number: HeadingNumber, page: u16) -> [u8; 6]
-    requires { page ≤ 999 }
-    ensures { result ≡ position_bytes_lem (placed number page) }
+fn position_bytes(number: HeadingNumber, page: Page) -> [u8; 6]
+    ensures { result ≡ position_bytes_lem (placed number page.number) }
 {
     let counters = number.counters;
+    let [high, low] = page.number().to_be_bytes();
     [
         number.level,
         counters.first,
         counters.second,
         counters.third,
-        (page / 256) as u8,
-        (page % 256) as u8,
+        high,
+        low,
     ]
 }
 
 impl Framed for LabelEntry {
     ghost frame = { λ e. label_frame (label_of e) };
 
-    fn frame_length(&self) -> usize {
-        8 + self.name.as_bytes().len()
-    }
-
-    fn write_frame(&self, out: &mut [u8]) -> usize {
+    fn frame(&self) -> Frame {
         let name = self.name.as_bytes();
-        let end = write(out, 0, &[0x4C, name.len() as u8]);
-        let end = write(out, end, name);
-        write(out, end, &position_bytes(self.number, self.page))
+        let mut frame = Frame::new();
+        append(&mut frame, &[0x4C, name.len() as u8]);
+        append(&mut frame, name);
+        append(&mut frame, &position_bytes(self.number, self.page));
+        frame
     }
 }
 
 impl Framed for ContentsEntry {
     ghost frame = { λ e. contents_frame (position_of e) };
 
-    fn frame_length(&self) -> usize {
-        7
+    fn frame(&self) -> Frame {
+        let mut frame = Frame::new();
+        frame.push(0x43);
+        append(&mut frame, &position_bytes(self.number, self.page));
+        frame
     }
+}
 
-    fn write_frame(&self, out: &mut [u8]) -> usize {
-        let end = write(out, 0, &[0x43]);
-        write(out, end, &position_bytes(self.number, self.page))
-    }
+// The frame that ends a record.
+pub fn end_frame(table: &Table) -> Frame
+    ensures { result.items ≡ end_frame_lem (lists_of table.now) }
+{
+    let labels = table.label_count() as u8;
+    let contents = table.contents_count() as u8;
+    let mut frame = Frame::new();
+    append(&mut frame, &[0x45, labels, contents]);
+    frame
 }

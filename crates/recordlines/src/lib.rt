@@ -8,6 +8,7 @@ pub use saves::{save, save_table, saved_length};
 mod decode;
 mod error;
 mod frames;
+mod lines;
 mod positions;
 mod reads;
 mod saves;

@@ -1,9 +1,11 @@
 // Positions and entries from a frame's bytes.
 ghost use Rattle.record.specs.Meaning.{label_of, position_of};
 ghost use Rattle.record.specs.Positions.{label_ok, heading_ok};
-ghost use Rattle.recordlines.specs.Raw.{raw, raw_label, Reads, Makes};
+ghost use Rattle.recordlines.specs.Raw.{raw, raw_label, Makes};
 
+use faults::Cause;
 use numerals::{Counters, HeadingNumber};
+use pages::Page;
 use record::{ContentsEntry, LabelEntry, Name};
 
 // A position as the bytes have it, right or wrong.
@@ -15,20 +17,26 @@ pub struct RawPosition {
 }
 
 // The position that six bytes tell.
-pub fn position_from(bytes: &[u8]) -> Option<RawPosition>
-    ensures { Reads bytes.now result }
-{
-    match bytes {
-        [level, first, second, third, high, low] => Some(RawPosition {
-            level: *level,
-            counters: Counters {
-                first: *first,
-                second: *second,
-                third: *third,
-            },
-            page: *high as u16 * 256 + *low as u16,
-        }),
-        _ => None,
+impl TryFrom<&[u8]> for RawPosition {
+    ghost use Rattle.recordlines.specs.Raw.{Reads};
+
+    type Error = Cause;
+
+    ghost try_from_gives = { λ bytes result. Reads bytes.now result };
+
+    fn try_from(bytes: &[u8]) -> Result<RawPosition, Cause> {
+        match bytes {
+            &[level, first, second, third, high, low] => Ok(RawPosition {
+                level,
+                counters: Counters {
+                    first,
+                    second,
+                    third,
+                },
+                page: u16::from_be_bytes([high, low]),
+            }),
+            _ => Err(Cause::FrameMalformed),
+        }
     }
 }
 
@@ -38,17 +46,8 @@ pub fn label_entry(name: &[u8], position: RawPosition) -> Option<LabelEntry>
 {
     let name = Name::new(name)?;
     let number = HeadingNumber::new(position.level, position.counters)?;
-    if position.page == 0 {
-        return None;
-    }
-    if position.page > 999 {
-        return None;
-    }
-    Some(LabelEntry {
-        name,
-        number,
-        page: position.page,
-    })
+    let page = Page::new(position.page)?;
+    Some(LabelEntry { name, number, page })
 }
 
 // The contents entry with this position, if it is right.
@@ -59,14 +58,6 @@ pub fn contents_entry(position: RawPosition) -> Option<ContentsEntry>
     if position.level == 0 {
         return None;
     }
-    if position.page == 0 {
-        return None;
-    }
-    if position.page > 999 {
-        return None;
-    }
-    Some(ContentsEntry {
-        number,
-        page: position.page,
-    })
+    let page = Page::new(position.page)?;
+    Some(ContentsEntry { number, page })
 }

@@ -7,35 +7,34 @@ ghost use Rattle.record.specs.Records.{record_lists};
 ghost use Rattle.recordlines.specs.Frame.{line, lines};
 ghost use Rattle.recordlines.specs.Save.{Saves, LoadsAgain};
 
-use crate::frames::Framed;
-use crate::writes::write_line;
+use crate::frames::{Framed, end_frame};
+use crate::writes::line_of;
+use buffers::write;
 use faults::{Cause, Fault};
 use record::{Record, Table};
 
-// How many bytes the lines of the entries have.
+// How many bytes the lines of the entries have. A loop, as the bound of a chain's `sum` did not prove.
 fn lines_length<E: Framed>(entries: &[E]) -> usize
     requires { length entries.now ≤ 128 }
     ensures value { result ≡ length (flat_map (λ e. line (E.Framed.frame e)) entries.now) }
     ensures bound { result ≤ 49 * 128 }
 {
     let mut total = 0;
-    for i in 0..entries.len() {
-        total += 2 * entries[i].frame_length() + 1;
+    for entry in entries {
+        total += line_of(&entry.frame()).len();
     }
     total
 }
 
-// Writes the lines of the entries, for which there is room, and answers their end.
+// Writes the lines of the entries, for which there is room, and answers their end. The place stays a number beside the buffer, as `write` takes them.
 fn write_lines<E: Framed>(entries: &[E], out: &mut [u8], at: usize) -> usize
     requires { at + length (flat_map (λ e. line (E.Framed.frame e)) entries.now) ≤ length out.old }
     ensures end { result ≡ at + length (flat_map (λ e. line (E.Framed.frame e)) entries.now) }
     ensures after { out.new ≡ written out.old at (flat_map (λ e. line (E.Framed.frame e)) entries.now) }
 {
     let mut end = at;
-    for i in 0..entries.len() {
-        let mut frame = [0; 24];
-        let n = entries[i].write_frame(&mut frame);
-        end = write_line(&frame[0..n], out, end);
+    for entry in entries {
+        end = write(out, end, &line_of(&entry.frame()));
     }
     end
 }
@@ -64,16 +63,7 @@ pub fn save_table(table: &Table, out: &mut [u8]) -> Result<usize, Fault>
     }
     let end = write_lines(table.labels(), out, 0);
     let end = write_lines(table.contents(), out, end);
-    let labels = table.label_count() as u8;
-    let contents = table.contents_count() as u8;
-    Ok(write_line(&[0x45, labels, contents], out, end))
-}
-
-// What is written of a record loads as the same record.
-fn loads_again(saved: &Record)
-    ensures { LoadsAgain (record_lists saved.now) }
-{
-    let _ = saved;
+    Ok(write(out, end, &line_of(&end_frame(table))))
 }
 
 // Saves a record. What is written loads as the same record.
@@ -81,6 +71,5 @@ pub fn save(saved: &Record, out: &mut [u8]) -> Result<usize, Fault>
     ensures value { Saves (record_lists saved.now) out.old result out.new }
     ensures loads { LoadsAgain (record_lists saved.now) }
 {
-    loads_again(saved);
     save_table(saved.table(), out)
 }

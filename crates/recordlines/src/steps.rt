@@ -4,9 +4,9 @@ ghost use Rattle.record.specs.Records.{record_lists};
 ghost use Rattle.recordlines.specs.Step.{step, position_from, name_sized, no_contents, label_kept, heading_kept, label_step, contents_step, end_step};
 ghost use Rattle.recordlines.specs.Raw.{raw, raw_label, Does};
 
-use crate::positions::{RawPosition, contents_entry, label_entry, position_from};
+use crate::positions::{RawPosition, contents_entry, label_entry};
 use faults::Cause;
-use names::{Naming, named};
+use names::{NameError, named};
 use record::Record;
 
 // A frame that is in order: one more entry, or the end.
@@ -16,7 +16,7 @@ pub enum Told {
     End,
 }
 
-// A frame is told by its first bytes and the rest.
+// A frame is told by its first bytes and the rest. The kinds stay bytes, as an enum of them would be read from bytes all the same.
 pub fn take_frame(entries: &mut Record, frame: &[u8]) -> Result<Told, Cause>
     ensures { Does (step (record_lists entries.old) frame.now) result (record_lists entries.old) (record_lists entries.new) }
 {
@@ -32,20 +32,16 @@ pub fn take_frame(entries: &mut Record, frame: &[u8]) -> Result<Told, Cause>
 fn take_label(entries: &mut Record, n: u8, rest: &[u8]) -> Result<Told, Cause>
     ensures { Does (label_step (record_lists entries.old) (take n rest.now) (position_from (drop n rest.now))) result (record_lists entries.old) (record_lists entries.new) }
 {
-    let size = n as usize;
-    if size > rest.len() {
-        return Err(Cause::FrameMalformed);
-    }
-    let (name, tail) = rest.split_at(size);
+    let (name, tail) = rest
+        .split_at_checked(n as usize)
+        .ok_or(Cause::FrameMalformed)?;
     take_named(entries, name, tail)
 }
 
 fn take_named(entries: &mut Record, name: &[u8], tail: &[u8]) -> Result<Told, Cause>
     ensures { Does (label_step (record_lists entries.old) name.now (position_from tail.now)) result (record_lists entries.old) (record_lists entries.new) }
 {
-    let Some(position) = position_from(tail) else {
-        return Err(Cause::FrameMalformed);
-    };
+    let position = RawPosition::try_from(tail)?;
     if !may_follow(entries, name) {
         return Err(Cause::FrameMalformed);
     }
@@ -53,57 +49,48 @@ fn take_named(entries: &mut Record, name: &[u8], tail: &[u8]) -> Result<Told, Ca
 }
 
 // Whether the name's length is right, and no contents frame came before.
+#[tactic(auto, unfolding(crate::specs::Step::name_sized))]
 fn may_follow(entries: &Record, name: &[u8]) -> bool
     ensures { result ≡ (name_sized name.now && no_contents (record_lists entries.now)) }
 {
     match named(name) {
-        Naming::WrongLength => false,
+        Err(NameError::WrongLength) => false,
         _ => entries.table().contents_count() == 0,
     }
 }
 
+#[tactic(auto, unfolding(crate::specs::Step::label_fits))]
 fn add_label(entries: &mut Record, name: &[u8], position: RawPosition) -> Result<Told, Cause>
     ensures { Does (label_kept (record_lists entries.old) (raw_label name.now position)) result (record_lists entries.old) (record_lists entries.new) }
 {
-    let Some(entry) = label_entry(name, position) else {
-        return Err(Cause::FrameInvalid);
-    };
-    if entries.add_label(entry) {
-        Ok(Told::Entry)
-    } else {
-        Err(Cause::FrameInvalid)
-    }
+    let entry = label_entry(name, position).ok_or(Cause::FrameInvalid)?;
+    entries.add_label(entry).map_err(|_| Cause::FrameInvalid)?;
+    Ok(Told::Entry)
 }
 
 fn take_contents(entries: &mut Record, tail: &[u8]) -> Result<Told, Cause>
     ensures { Does (contents_step (record_lists entries.old) (position_from tail.now)) result (record_lists entries.old) (record_lists entries.new) }
 {
-    let Some(position) = position_from(tail) else {
-        return Err(Cause::FrameMalformed);
-    };
+    let position = RawPosition::try_from(tail)?;
     add_contents(entries, position)
 }
 
+#[tactic(auto, unfolding(crate::specs::Step::heading_fits))]
 fn add_contents(entries: &mut Record, position: RawPosition) -> Result<Told, Cause>
     ensures { Does (heading_kept (record_lists entries.old) (raw position)) result (record_lists entries.old) (record_lists entries.new) }
 {
-    let Some(entry) = contents_entry(position) else {
-        return Err(Cause::FrameInvalid);
-    };
-    if entries.add_contents(entry) {
-        Ok(Told::Entry)
-    } else {
-        Err(Cause::FrameInvalid)
-    }
+    let entry = contents_entry(position).ok_or(Cause::FrameInvalid)?;
+    entries
+        .add_contents(entry)
+        .map_err(|_| Cause::FrameInvalid)?;
+    Ok(Told::Entry)
 }
 
 fn take_end(entries: &Record, labels: u8, contents: u8) -> Result<Told, Cause>
     ensures { Does (end_step (record_lists entries.now) labels contents) result (record_lists entries.now) (record_lists entries.now) }
 {
-    if labels as usize != entries.table().label_count() {
-        return Err(Cause::FrameInvalid);
-    }
-    if contents as usize != entries.table().contents_count() {
+    let table = entries.table();
+    if labels as usize != table.label_count() || contents as usize != table.contents_count() {
         return Err(Cause::FrameInvalid);
     }
     Ok(Told::End)

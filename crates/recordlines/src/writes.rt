@@ -1,10 +1,13 @@
 // From bytes to lines of digits.
-ghost use Rattle.std.specs.Prelude.{◌≡◌, ◌+◌, ◌<◌, ◌≤◌, length};
-ghost use Rattle.buffers.specs.Written.{written};
-ghost use Rattle.recordlines.specs.Hex.{hex_digit_lem, hex_pair, hex};
+ghost use Rattle.std.specs.Prelude.{◌≡◌, ◌<◌};
+ghost use Rattle.recordlines.specs.Hex.{hex_digit_lem, hex_pair as hex_pair_lem};
 ghost use Rattle.recordlines.specs.Frame.{line};
 
-use buffers::write;
+use crate::frames::Frame;
+use arrayvec::ArrayVec;
+
+// Room for the line of any frame.
+pub type Line = ArrayVec<u8, 49>;
 
 fn hex_digit(value: u8) -> u8
     requires { value < 16 }
@@ -17,35 +20,23 @@ fn hex_digit(value: u8) -> u8
     }
 }
 
-// Writes the two digits of a byte, and answers their end.
-fn write_pair(byte: u8, out: &mut [u8], at: usize) -> usize
-    requires { at + length (hex_pair byte) ≤ length out.old }
-    ensures end { result ≡ at + length (hex_pair byte) }
-    ensures after { out.new ≡ written out.old at (hex_pair byte) }
+// The two digits of a byte.
+fn hex_pair(byte: u8) -> [u8; 2]
+    ensures { result ≡ hex_pair_lem byte }
 {
-    let high = hex_digit(byte / 16);
-    let low = hex_digit(byte % 16);
-    write(out, at, &[high, low])
+    [hex_digit(byte / 16), hex_digit(byte % 16)]
 }
 
-fn write_hex(bytes: &[u8], out: &mut [u8], at: usize) -> usize
-    requires { at + length (hex bytes.now) ≤ length out.old }
-    ensures end { result ≡ at + length (hex bytes.now) }
-    ensures after { out.new ≡ written out.old at (hex bytes.now) }
+// The line of a frame: its digits and a newline.
+pub fn line_of(frame: &Frame) -> Line
+    ensures { result.items ≡ line frame.now.items }
 {
-    let mut end = at;
-    for i in 0..bytes.len() {
-        end = write_pair(bytes[i], out, end);
+    let mut line = Line::new();
+    for byte in frame.iter() {
+        let [high, low] = hex_pair(*byte);
+        line.push(high);
+        line.push(low);
     }
-    end
-}
-
-// Writes the line of a frame for which there is room, and answers its end.
-pub fn write_line(frame: &[u8], out: &mut [u8], at: usize) -> usize
-    requires { at + length (line frame.now) ≤ length out.old }
-    ensures end { result ≡ at + length (line frame.now) }
-    ensures after { out.new ≡ written out.old at (line frame.now) }
-{
-    let end = write_hex(frame, out, at);
-    write(out, end, b"\n")
+    line.push(b'\n');
+    line
 }

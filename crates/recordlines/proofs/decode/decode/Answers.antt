@@ -1,25 +1,53 @@
-use Rattle.std.proofs.Common.{◌≡◌, ◌<◌, ◌≤◌, [], ◌∷◌, length, take, sym, ap, ◌∙◌, arith, rules, ltb-false}
-use Rattle.std.proofs.lemmas.List.{take_more_set, take_rest, length-drop, length-set}
-use Rattle.std.specs.List.{between}
-use Rattle.std.proofs.lemmas.Bool.{cond-false, lt-leb}
-use Rattle.recordlines.specs.Hex.{after, then, bytes_of}
-use Rattle.recordlines.proofs.Pairs.{after_none, after_more, pair}
+use Rattle.std.proofs.Common.{◌≡◌, ◌+◌, ◌*◌, ◌/◌, ◌<◌, length, drop, sym, ap, ◌∙◌, subst, arith}
+use Rattle.std.proofs.lemmas.Bool.{cond-true, cond-false, le-leb, lt-leb, eqb-true, eqb-false}
+use Rattle.recordlines.specs.Hex.{after, bytes_of}
+use Rattle.recordlines.specs.Step.{Decodes}
+use Rattle.recordlines.proofs.Pairs.{after_none, byte_more, no_byte, no_more, one_more}
 use Rattle.recordlines.proofs.decode.decode.Goals as goal
 
 pub returns-then-digits-gt48 : goal.returns-then-digits-gt48
 returns-then-digits-gt48 c = cond-false _ _ _ (lt-leb _ 48 c.if-digits-gt48.true)
 
-pub loop-rest-init : goal.loop-rest-init
-loop-rest-init c = (after_none _, search rules, search rules)
+pub loop-high-init : goal.loop-high-init
+loop-high-init c = record {
+  all = ap (λ xs. after xs (bytes_of c.args.digits.now)) c.new-frame.ensures ∙ after_none _;
+  count = ap length c.new-frame.ensures;
+}
 
-pub loop-rest-preserved : goal.loop-rest-preserved
-loop-rest-preserved c =
-    let rest = c.loop-rest.rest.now in
-    let two : 2 ≤ length rest = omega (arith, ltb-false) in
-    let room : c.loop-rest.n < length c.loop-rest.out = omega (arith, c.loop-rest.invariant.1, c.loop-rest.invariant.2) in
-    let more = between 2 (length rest) rest in
-    let e : bytes_of rest ≡ after (c.in-Some.b ∷ []) (bytes_of more) = pair rest two ∙ ap (λ o. then o (bytes_of more)) (sym c.in-Some.ensures) in (
-      ap (λ l. after l (bytes_of more)) (take_more_set c.loop-rest.out c.loop-rest.n c.in-Some.b room) ∙ after_more _ _ _ ∙ ap (λ o. after (take c.loop-rest.n c.loop-rest.out) o) (sym e) ∙ c.loop-rest.invariant.0,
-      omega (arith, c.loop-rest.invariant.1, ap length (take_rest rest 2), length-drop 2 rest),
-      length-set _ _ _ ∙ c.loop-rest.invariant.2,
-    )
+pub returns-in_err-pair_value : goal.returns-in_err-pair_value
+returns-in_err-pair_value c =
+    let ds = c.args.digits.now in
+    let within : c.loop-high.high-index < length ds / 2 = omega (arith, c.loop-high-test.true, c.as_chunks.ensures.front_len) in
+    let none = no_byte ds _ c.loop-high.high-index c.as_chunks.ensures.front within c.loop-high.frame.items (sym c.pair_value.ensures ∙ c.in_err-pair_value.was) in
+    subst (Decodes ds) (sym c.from_residual.ensures) (cond-true _ _ _ (le-leb _ 48 c.if-digits-gt48.false) ∙ sym c.loop-high.invariant.all ∙ none)
+
+pub loop-high-preserved : goal.loop-high-preserved
+loop-high-preserved c =
+    let ds = c.args.digits.now in
+    let i = c.loop-high.high-index in
+    let xs = c.loop-high.frame.items in
+    let within : i < length ds / 2 = omega (arith, c.loop-high-test.true, c.as_chunks.ensures.front_len) in
+    let more = byte_more ds _ i c.as_chunks.ensures.front within xs _ (sym c.pair_value.ensures ∙ c.in_ok-pair_value.was) in
+    record {
+      all = ap (λ l. after l (bytes_of (drop ((i + 1) * 2) ds))) c.push.ensures.items ∙ more ∙ c.loop-high.invariant.all;
+      count = omega (arith, c.push.ensures.len, c.loop-high.invariant.count);
+    }
+
+pub returns-then-is_empty : goal.returns-then-is_empty
+returns-then-is_empty c =
+    let ds = c.args.digits.now in
+    let end : c.loop-high.high-index * 2 ≡ length ds / 2 * 2 = omega (arith, c.loop-high-test.false, c.loop-high.auto.high-index-end, c.as_chunks.ensures.front_len) in
+    let rest = ap (λ n. drop n ds) end ∙ sym c.as_chunks.ensures.back in
+    let xs = c.loop-high.frame.items in
+    cond-true _ _ _ (le-leb _ 48 c.if-digits-gt48.false) ∙ sym c.loop-high.invariant.all ∙ ap (λ l. after xs (bytes_of l)) rest
+    ∙ no_more xs c.as_chunks.result.1.now (eqb-true _ 0 (sym c.if-is_empty.ensures))
+
+pub returns-else-is_empty : goal.returns-else-is_empty
+returns-else-is_empty c =
+    let ds = c.args.digits.now in
+    let end : c.loop-high.high-index * 2 ≡ length ds / 2 * 2 = omega (arith, c.loop-high-test.false, c.loop-high.auto.high-index-end, c.as_chunks.ensures.front_len) in
+    let rest = ap (λ n. drop n ds) end ∙ sym c.as_chunks.ensures.back in
+    let xs = c.loop-high.frame.items in
+    let some = eqb-false (length c.as_chunks.result.1.now) 0 (sym c.is_empty.ensures ∙ c.if-is_empty.false) in
+    cond-true _ _ _ (le-leb _ 48 c.if-digits-gt48.false) ∙ sym c.loop-high.invariant.all ∙ ap (λ l. after xs (bytes_of l)) rest
+    ∙ one_more xs c.as_chunks.result.1.now (omega (arith, some, c.as_chunks.ensures.back_len))

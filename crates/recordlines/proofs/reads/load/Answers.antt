@@ -1,32 +1,30 @@
-use Rattle.std.proofs.Common.{◌≡◌, length, sym, ap, ◌∙◌}
-use Rattle.std.proofs.lemmas.List.{nil_from_length}
-use Rattle.std.proofs.lemmas.Bool.{eqb-true, eqb-false}
+use Rattle.std.proofs.Common.{length, sym, ap, ◌∙◌, arith, rules}
+use Rattle.std.proofs.lemmas.Grind.{common_steps}
+use Rattle.std.proofs.lemmas.Bool.{eqb-false}
+use Rattle.faults.specs.Faults.{in_line_lem}
+use Rattle.faults.specs.declared.cause.Cause.TheVariants.{FrameMalformed}
 use Rattle.record.specs.Records.{record_lists}
-use Rattle.recordlines.specs.Load.{split, closed, accepted, refused, loaded}
+use Rattle.recordlines.specs.Load.{refused}
 use Rattle.recordlines.proofs.Splitting.{end_read, not_closed}
 use Rattle.recordlines.proofs.Stepping.{ended}
 use Rattle.recordlines.proofs.Undo.{saves_again}
+use Rattle.recordlines.proofs.reads.load.Goals.{in-Some+in_ok-told+in-End+else-is_empty, in_default}
 use Rattle.recordlines.proofs.reads.load.Goals as goal
 
-pub returns-then-is_empty : goal.returns-then-is_empty
-returns-then-is_empty c =
-    let bytes = c.args.bytes.now in
-    let ls = record_lists c.loop-digits.entries in
-    let n = c.loop-digits.line in
-    let more = c.in-Some.more.now in
-    let told = ended c.in-Ok-take_line.told _ _ _ c.in-End.is c.in-Ok-take_line.ensures in
-    let none = nil_from_length more (eqb-true (length more) 0 (sym c.if-is_empty.ensures)) in
-    let end = end_read ls n c.in-Some.digits.now c.loop-digits.rest.now more c.in-Some.ensures.0 told.0 in
-    let value : loaded bytes ≡ accepted (record_lists c.take_line.new.entries) =
-    sym c.loop-digits.invariant.0 ∙ end ∙ ap (λ l. closed ls n (split l).whole (split l).rest) none ∙ ap accepted (sym told.1) in
-    record { value = value; saves = saves_again bytes _ value }
+pub returns-then-is_empty-clause-saves : goal.returns-then-is_empty-clause-saves
+returns-then-is_empty-clause-saves c = saves_again c.args.bytes.now (record_lists c.take_line.new.entries) (grind (arith, common_steps))
 
-pub returns-in-End : goal.returns-in-End
-returns-in-End c =
-    let ls = record_lists c.loop-digits.entries in
-    let n = c.loop-digits.line in
-    let more = c.in-Some.more.now in
-    let told = ended c.in-Ok-take_line.told _ _ _ c.in-End.is c.in-Ok-take_line.ensures in
-    let some = eqb-false (length more) 0 (sym c.is_empty.ensures ∙ c.if-is_empty.false) in
-    let end = end_read ls n c.in-Some.digits.now c.loop-digits.rest.now more c.in-Some.ensures.0 told.0 in
-    record { value = sym c.loop-digits.invariant.0 ∙ end ∙ not_closed ls n more some ∙ ap refused (sym c.in_line-in-End.ensures); saves = tt }
+pub returns-clause-value : goal.returns-clause-value
+returns-clause-value c =
+    let ls = record_lists c.loop-line.entries in
+    let n = c.loop-line.lines.number in
+    let told = ap refused (sym c.in_line.ensures) in
+    elim c.match-next.branch [
+      | in-Some+in_ok-told+in-End+else-is_empty w ↦ (
+          let rest = c.next.new.self.rest.now in
+          let end = ended _ w.take_line.result w.map_err.result w.in_ok-told.told _ _ _ w.map_err.ensures.cases w.map_err.ensures.variant w.in_ok-told.was w.in-End.is w.take_line.ensures in
+          let some = eqb-false (length rest) 0 (sym w.is_empty.ensures ∙ w.if-is_empty.false) in
+          sym c.loop-line.invariant ∙ end_read ls n w.in-Some.line.digits.now c.loop-line.lines.rest.now rest w.in-Some.ensures.steps.0 end.0 ∙ not_closed ls n rest some
+          ∙ ap (λ k. refused (in_line_lem FrameMalformed k)) (sym w.in-Some.ensures.steps.2) ∙ told)
+      | in_default w ↦ search rules
+    ]
