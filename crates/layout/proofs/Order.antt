@@ -1,19 +1,17 @@
 -- The words of a run stand in reading order, by the laws alone.
-use Rattle.std.proofs.Common.{◌≡◌, ℕ, ◌<◌, ◌≤◌, ◌⊎◌, List, [], ◌∷◌, length, sym, refl, subst, inl, inr, arith}
+use Rattle.std.proofs.Common.{◌≡◌, ℕ, ◌<◌, ◌≤◌, ◌⊎◌, List, [], ◌∷◌, length, get_or, refl, subst, inl, inr, arith}
+use Rattle.std.specs.List.{All, AllPairs}
 use Rattle.std.proofs.lemmas.Bool.{cases_lt}
+use Rattle.std.proofs.lemmas.List.Elements.{All-cons, All-nil}
+use Rattle.std.proofs.lemmas.List.Kept.{AllPairs-cons}
 use Rattle.layout.specs.Spots.{Spot, on, at, page_of, after, ◌≼◌, Paper, paged, printed, Kind, High, Wide}
 use Rattle.layout.specs.Meaning.{Meaning, Lawful, Proper, refused, placed}
-use Rattle.layout.specs.Runs.{Each, Pairs, PutWord, size, Start, opened, held, Run, done, word, paragraph, page, EndedBefore, PageOnward, covered, Apart, Lies, Precedes, Reads, ReadingOrder, PrintedOrder}
+use Rattle.layout.specs.Runs.{PutWord, size, Start, opened, held, Run, done, word, paragraph, page, EndedBefore, PageOnward, covered, Apart, Lies, Precedes, Reads, ReadingOrder, PrintedOrder}
 use Rattle.layout.specs.declared.refusal.Refusal.TheVariants.{WordTooWide}
 
-pub each : {A : Type 0} (P : A → Type 0) (x : A) (xs : List A) → P x → Each P xs → Each P (x ∷ xs)
-each P x xs here rest y (inl e) = subst P (sym e) here
-each P x xs here rest y (inr i) = rest y i
-
 -- what two elements with a property have from R, all have
-pub pairs : {A : Type 0} (P : A → Type 0) (R S : A → A → Type 0) → ((x y : A) → P x → P y → R x y → S x y) → (xs : List A) → Each P xs → Pairs R xs → Pairs S xs
-pairs P R S f [] each-p r = tt
-pairs P R S f (x ∷ xs) each-p r = (λ y i. f x y (each-p x (inl refl)) (each-p y (inr i)) (r.0 y i), pairs P R S f xs (λ y i. each-p y (inr i)) r.1)
+pub pairs : {A : Type 0} (P : A → Type 0) (R S : A → A → Type 0) → ((x y : A) → P x → P y → R x y → S x y) → (xs : List A) → All P xs → AllPairs R xs → AllPairs S xs
+pairs P R S f xs all r i j d l m = let k : i < length xs = omega arith in f (get_or xs i d) (get_or xs j d) (all i d k) (all j d m) (r i j d l m)
 
 pub ≼_trans : (b : Paper) (x y z : Spot) → Kind b x → Kind b y → Kind b z → x ≼ y → y ≼ z → x ≼ z
 ≼_trans paged (at p l c) y z i j k f g = elim i [ ]
@@ -65,13 +63,13 @@ no_longer w t r h = elim (cases_lt 72 (length w)) [ inl l ↦ let e = h l in let
 
 -- the words of a run from a place with the front f
 record Follow (b : Paper) (f : Spot) (ws : List PutWord) : Type 0 where
-  begun : Each (λ v. f ≼ v.spot) ws
-  ended : Pairs EndedBefore ws
-  lies : Each (Lies b) ws
+  begun : All (λ v. f ≼ v.spot) ws
+  ended : AllPairs EndedBefore ws
+  lies : All (Lies b) ws
 
 earlier : (b : Paper) (f g : Spot) (ws : List PutWord) → Kind b f → Kind b g → f ≼ g → Follow b g ws → Follow b f ws
 earlier b f g ws i j l r = record {
-  begun = λ v k. ≼_trans b f g v.spot i j (r.lies v k).kind l (r.begun v k);
+  begun = λ k d m. ≼_trans b f g (get_or ws k d).spot i j (r.lies k d m).kind l (r.begun k d m);
   ended = r.ended;
   lies = r.lies;
 }
@@ -93,14 +91,14 @@ module _ {Self Mark : Type 0} (m : Meaning Self Mark) (laws : Lawful m) (s : m.S
       let long : (length v.bytes ≡ 0) ⊎ (72 < length v.bytes) → placed t r ≡ refused WordTooWide = λ l. subst (λ o. o ≡ refused WordTooWide) e (laws.too_long s q v.bytes l) in
       let here : Lies b v = record { kind = put.kind; inside = put.inside; some = some_byte v.bytes t r (λ l. long (inl l)); short = no_longer v.bytes t r (λ l. long (inr l)) } in
       record {
-        begun = each (λ u. f ≼ u.spot) v ws put.ahead all.begun;
-        ended = (beyond.begun, beyond.ended);
-        lies = each (Lies b) v ws here beyond.lies;
+        begun = All-cons (λ u. f ≼ u.spot) v ws put.ahead all.begun;
+        ended = AllPairs-cons EndedBefore v ws beyond.begun beyond.ended;
+        lies = All-cons (Lies b) v ws here beyond.lies;
       }
 
   -- from every place that can be come to
   follows : {q r : m.Place} {ws : List PutWord} → laws.Sound s q → Run m s q ws r → Follow (m.paper s) (m.front s q) ws
-  follows sound done = record { begun = λ v i. elim i [ ]; ended = tt; lies = λ v i. elim i [ ] }
+  follows sound done = record { begun = All-nil _; ended = λ i j d l m. absurd (omega arith); lies = All-nil (Lies (m.paper s)) }
   follows {q} sound (word {ws = ws} v r e run) = step v ws q r sound e (λ next. follows next run)
   follows {q} {r} {ws} sound (paragraph run) =
       let a = laws.ends_paragraph s q sound in

@@ -1,7 +1,4 @@
 -- Runs of a layout, and how their words stand on the pages.
---   x ∈ xs          x is one of the elements
---   Each P xs       P holds of each element
---   Pairs R xs      R holds of each element with each later one
 --   PutWord         a word that was put: its bytes and its spot
 --   size            how many bytes it has
 --   Start m s q     a run may start at q: it is the opening place, or the place of some value
@@ -17,21 +14,10 @@
 --   ReadingOrder    every run reads so
 --   ReadsWithin     at some settings, on pages of some height and width
 --   PrintedOrder    at all settings, on pages of their height and width
-use Rattle.std.specs.Prelude.{◌≡◌, ℕ, ◌+◌, ◌<◌, ◌≤◌, ◌⊎◌, List, [], ◌∷◌, length}
+use Rattle.std.specs.Prelude.{◌≡◌, ℕ, ◌+◌, ◌<◌, ◌≤◌, List, [], ◌∷◌, length}
+use Rattle.std.specs.List.{All, AllPairs}
 use Rattle.layout.specs.Spots.{Spot, on, at, page_of, after, ◌≼◌, ◌≺◌, Paper, paged, printed, High, Wide, Kind, Inside}
 use Rattle.layout.specs.Meaning.{Meaning, placed}
-
-infix 40 ◌∈◌
-abbrev pub ◌∈◌ : {A : Type 0} → A → List A → Type 0
-x ∈ [] = ⊥
-x ∈ (y ∷ ys) = (x ≡ y) ⊎ (x ∈ ys)
-
-abbrev pub Each : {A : Type 0} → (A → Type 0) → List A → Type 0
-Each {A} P xs = (x : A) → x ∈ xs → P x
-
-abbrev pub Pairs : {A : Type 0} → (A → A → Type 0) → List A → Type 0
-Pairs R [] = Unit {0}
-Pairs R (x ∷ xs) = Each (R x) xs × Pairs R xs
 
 pub record PutWord : Type 0 where
   pub bytes : List ℕ
@@ -78,15 +64,15 @@ Precedes (printed h w) v u = v.spot ≺ u.spot
 
 pub record Reads (b : Paper) (ws : List PutWord) : Type 0 where
   -- the pages never go back
-  pub onward : Pairs PageOnward ws
+  pub onward : AllPairs PageOnward ws
   -- where a page has lines, the words strictly ascend
-  pub ascending : Pairs (Precedes b) ws
+  pub ascending : AllPairs (Precedes b) ws
   -- each begins after the end of every earlier one
-  pub ended : Pairs EndedBefore ws
+  pub ended : AllPairs EndedBefore ws
   -- no two share a column of a line
-  pub apart : Pairs Apart ws
+  pub apart : AllPairs Apart ws
   -- each lies inside the page
-  pub inside : Each (Lies b) ws
+  pub inside : All (Lies b) ws
 
 abbrev pub ReadingOrder : {Self Mark : Type 0} → Meaning Self Mark → Type 0
 ReadingOrder m = (s : m.Settings) (q r : m.Place) (ws : List PutWord) → Start m s q → Run m s q ws r → Reads (m.paper s) ws

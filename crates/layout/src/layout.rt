@@ -1,11 +1,12 @@
 // The interface of layouts. What the calls mean is one record, `meaning`, and what every layout owes
 // is a second one, `lawful`: generic code is proved from these two, for every layout at once.
-ghost use Rattle.std.specs.Prelude.{◌≡◌};
+ghost use Rattle.std.specs.Prelude.{◌≡◌, ℕ};
 ghost use Rattle.layout.specs.Calls.{Rewound, WordSet, ParagraphEnded, PageEnded, spot_told, paper_told};
 ghost use Rattle.layout.specs.Meaning.{Meaning, Lawful};
 ghost use Rattle.layout.specs.Spots.{page_of, High, Wide, Stands};
 
 use crate::refusal::Refusal;
+use pages::Page;
 
 pub trait Layout {
     // Where a word was put, in the layout's own terms.
@@ -14,15 +15,13 @@ pub trait Layout {
     // The letter that names the kind of layout.
     const LETTER: u8;
 
+    ghost LETTER: { ℕ };
+
     // Settings and place, and what each call makes of them.
     ghost meaning: { Meaning Self Self.Mark };
 
     // The laws, which each `impl` shows.
     ghost lawful: { Lawful meaning };
-
-    // `LETTER`, with a contract, which a constant cannot have.
-    fn kind_letter() -> u8
-        ensures { result ≡ meaning.letter };
 
     // Goes back to the opening place.
     fn rewind(&mut self)
@@ -40,9 +39,12 @@ pub trait Layout {
     fn end_page(&mut self)
         ensures { PageEnded meaning self.old self.new };
 
-    // The page of a mark, 1 to 999.
-    fn page(&self, mark: Self::Mark) -> u16
-        ensures { result ≡ page_of (spot_told meaning self.now mark) };
+    // The page of a mark.
+    fn page(&self, mark: Self::Mark) -> Page
+        ensures { result.number ≡ page_of (spot_told meaning self.now mark) };
+
+    // The letter is that of the meaning.
+    ghost lettered: { LETTER ≡ meaning.letter };
 }
 
 // A layout that also tells where on the page a word stands.

@@ -1,57 +1,40 @@
 // Rows of steps and answers for the layouts.
-use layout::{Layout, Printing};
+use Step::{EndPage, EndParagraph, Rewind, Word};
+use faults::Fault;
+use layout::Printing;
 use layouts::{FixedForm, LineFiller};
 use std::process::Abort;
 use std::test::Fail;
 
+// Page, line and column, or the number of a refusal.
+type Stands = Result<(u16, u8, u8), u8>;
+
 #[derive(Clone, Copy)]
 enum Step {
-    // a word of so many bytes
-    Word(usize),
+    // a word of so many bytes, and where it comes to stand
+    Word(usize, Stands),
     EndParagraph,
     EndPage,
     Rewind,
 }
 
-#[derive(Clone, Copy, PartialEq, Eq, Debug)]
-enum Answer {
-    // page, line and column
-    At(u16, u8, u8),
-    Refused(u8),
-    Nothing,
+fn set<P: Printing>(layout: &mut P, length: usize) -> Stands {
+    let text = [b'x'; 128];
+    let mark = layout
+        .set(&text[..length.min(128)])
+        .map_err(|refusal| refusal.number())?;
+    let (line, column) = layout.line_and_column(mark);
+    Ok((layout.page(mark).number(), line, column))
 }
 
-fn play<P: Printing>(layout: &mut P, step: Step) -> Answer {
-    match step {
-        Step::Word(n) => {
-            let text = [b'x'; 128];
-            let end = n.min(128);
-            match layout.set(&text[0..end]) {
-                Ok(mark) => {
-                    let (line, column) = layout.line_and_column(mark);
-                    Answer::At(layout.page(mark), line, column)
-                }
-                Err(e) => Answer::Refused(e.number()),
-            }
+fn play_row<P: Printing>(rt: &impl Abort, layout: &mut P, row: &[Step]) {
+    for step in row {
+        match *step {
+            Word(length, stands) => assert_eq!(rt; set(layout, length), stands),
+            EndParagraph => layout.end_paragraph(),
+            EndPage => layout.end_page(),
+            Rewind => layout.rewind(),
         }
-        Step::EndParagraph => {
-            layout.end_paragraph();
-            Answer::Nothing
-        }
-        Step::EndPage => {
-            layout.end_page();
-            Answer::Nothing
-        }
-        Step::Rewind => {
-            layout.rewind();
-            Answer::Nothing
-        }
-    }
-}
-
-fn play_row<P: Printing>(rt: &impl Abort, layout: &mut P, row: &[(Step, Answer)]) {
-    for (step, answer) in row {
-        assert_eq!(rt; play(layout, *step), *answer);
     }
 }
 
@@ -62,16 +45,16 @@ fn long_words(rt: HostRuntime) -> Result<(), Fail> {
         &rt,
         &mut filler,
         &[
-            (Step::Word(2), Answer::At(1, 1, 1)),
-            (Step::EndParagraph, Answer::Nothing),
-            (Step::Word(119), Answer::Refused(14)),
-            (Step::Word(65), Answer::At(1, 2, 1)),
-            (Step::Word(1), Answer::At(1, 2, 67)),
-            (Step::Word(2), Answer::At(1, 2, 69)),
-            (Step::EndPage, Answer::Nothing),
-            (Step::EndPage, Answer::Nothing),
-            (Step::Word(119), Answer::Refused(14)),
-            (Step::Word(64), Answer::At(2, 1, 1)),
+            Word(2, Ok((1, 1, 1))),
+            EndParagraph,
+            Word(119, Err(14)),
+            Word(65, Ok((1, 2, 1))),
+            Word(1, Ok((1, 2, 67))),
+            Word(2, Ok((1, 2, 69))),
+            EndPage,
+            EndPage,
+            Word(119, Err(14)),
+            Word(64, Ok((2, 1, 1))),
         ],
     );
     Ok(())
@@ -84,16 +67,16 @@ fn three_lines(rt: HostRuntime) -> Result<(), Fail> {
         &rt,
         &mut filler,
         &[
-            (Step::Word(2), Answer::At(1, 1, 1)),
-            (Step::Word(21), Answer::At(1, 2, 1)),
-            (Step::Word(20), Answer::At(1, 3, 1)),
-            (Step::Word(4), Answer::At(2, 1, 1)),
-            (Step::Word(1), Answer::At(2, 1, 6)),
-            (Step::Word(21), Answer::At(2, 2, 1)),
-            (Step::Word(22), Answer::Refused(14)),
-            (Step::Word(1), Answer::At(2, 3, 1)),
-            (Step::EndParagraph, Answer::Nothing),
-            (Step::Word(21), Answer::At(3, 1, 1)),
+            Word(2, Ok((1, 1, 1))),
+            Word(21, Ok((1, 2, 1))),
+            Word(20, Ok((1, 3, 1))),
+            Word(4, Ok((2, 1, 1))),
+            Word(1, Ok((2, 1, 6))),
+            Word(21, Ok((2, 2, 1))),
+            Word(22, Err(14)),
+            Word(1, Ok((2, 3, 1))),
+            EndParagraph,
+            Word(21, Ok((3, 1, 1))),
         ],
     );
     Ok(())
@@ -106,30 +89,30 @@ fn two_lines(rt: HostRuntime) -> Result<(), Fail> {
         &rt,
         &mut filler,
         &[
-            (Step::Word(16), Answer::At(1, 1, 1)),
-            (Step::EndParagraph, Answer::Nothing),
-            (Step::Word(1), Answer::At(1, 2, 1)),
-            (Step::Word(1), Answer::At(1, 2, 3)),
-            (Step::Word(2), Answer::At(1, 2, 5)),
-            (Step::Word(1), Answer::At(1, 2, 8)),
-            (Step::EndPage, Answer::Nothing),
-            (Step::Word(13), Answer::At(2, 1, 1)),
-            (Step::Word(1), Answer::At(2, 1, 15)),
-            (Step::Word(20), Answer::At(2, 2, 1)),
-            (Step::Rewind, Answer::Nothing),
-            (Step::Word(1), Answer::At(1, 1, 1)),
-            (Step::Word(5), Answer::At(1, 1, 3)),
-            (Step::Word(19), Answer::At(1, 2, 1)),
-            (Step::Word(19), Answer::At(2, 1, 1)),
-            (Step::EndParagraph, Answer::Nothing),
-            (Step::Word(19), Answer::At(2, 2, 1)),
-            (Step::EndParagraph, Answer::Nothing),
-            (Step::Word(1), Answer::At(3, 1, 1)),
-            (Step::EndParagraph, Answer::Nothing),
-            (Step::EndParagraph, Answer::Nothing),
-            (Step::Word(3), Answer::At(3, 2, 1)),
-            (Step::EndPage, Answer::Nothing),
-            (Step::Word(2), Answer::At(4, 1, 1)),
+            Word(16, Ok((1, 1, 1))),
+            EndParagraph,
+            Word(1, Ok((1, 2, 1))),
+            Word(1, Ok((1, 2, 3))),
+            Word(2, Ok((1, 2, 5))),
+            Word(1, Ok((1, 2, 8))),
+            EndPage,
+            Word(13, Ok((2, 1, 1))),
+            Word(1, Ok((2, 1, 15))),
+            Word(20, Ok((2, 2, 1))),
+            Rewind,
+            Word(1, Ok((1, 1, 1))),
+            Word(5, Ok((1, 1, 3))),
+            Word(19, Ok((1, 2, 1))),
+            Word(19, Ok((2, 1, 1))),
+            EndParagraph,
+            Word(19, Ok((2, 2, 1))),
+            EndParagraph,
+            Word(1, Ok((3, 1, 1))),
+            EndParagraph,
+            EndParagraph,
+            Word(3, Ok((3, 2, 1))),
+            EndPage,
+            Word(2, Ok((4, 1, 1))),
         ],
     );
     Ok(())
@@ -142,36 +125,36 @@ fn eight_cells(rt: HostRuntime) -> Result<(), Fail> {
         &rt,
         &mut form,
         &[
-            (Step::Word(14), Answer::At(1, 1, 1)),
-            (Step::Word(14), Answer::At(1, 1, 16)),
-            (Step::Word(15), Answer::At(1, 1, 31)),
-            (Step::EndParagraph, Answer::Nothing),
-            (Step::Word(15), Answer::At(1, 2, 1)),
-            (Step::Word(15), Answer::At(1, 2, 16)),
-            (Step::Word(1), Answer::At(1, 2, 31)),
-            (Step::Word(15), Answer::At(1, 2, 46)),
-            (Step::Word(1), Answer::At(1, 2, 61)),
-            (Step::Word(15), Answer::At(1, 2, 76)),
-            (Step::Word(14), Answer::At(1, 2, 91)),
-            (Step::Word(2), Answer::At(1, 2, 106)),
-            (Step::Word(14), Answer::At(2, 1, 1)),
-            (Step::EndPage, Answer::Nothing),
-            (Step::EndParagraph, Answer::Nothing),
-            (Step::EndPage, Answer::Nothing),
-            (Step::Word(14), Answer::At(3, 1, 1)),
-            (Step::Word(13), Answer::At(3, 1, 16)),
-            (Step::EndPage, Answer::Nothing),
-            (Step::EndParagraph, Answer::Nothing),
-            (Step::Word(14), Answer::At(4, 1, 1)),
-            (Step::EndPage, Answer::Nothing),
-            (Step::Word(14), Answer::At(5, 1, 1)),
-            (Step::Word(15), Answer::At(5, 1, 16)),
-            (Step::Word(3), Answer::At(5, 1, 31)),
-            (Step::Word(15), Answer::At(5, 1, 46)),
-            (Step::Word(1), Answer::At(5, 1, 61)),
-            (Step::EndParagraph, Answer::Nothing),
-            (Step::EndPage, Answer::Nothing),
-            (Step::Word(1), Answer::At(6, 1, 1)),
+            Word(14, Ok((1, 1, 1))),
+            Word(14, Ok((1, 1, 16))),
+            Word(15, Ok((1, 1, 31))),
+            EndParagraph,
+            Word(15, Ok((1, 2, 1))),
+            Word(15, Ok((1, 2, 16))),
+            Word(1, Ok((1, 2, 31))),
+            Word(15, Ok((1, 2, 46))),
+            Word(1, Ok((1, 2, 61))),
+            Word(15, Ok((1, 2, 76))),
+            Word(14, Ok((1, 2, 91))),
+            Word(2, Ok((1, 2, 106))),
+            Word(14, Ok((2, 1, 1))),
+            EndPage,
+            EndParagraph,
+            EndPage,
+            Word(14, Ok((3, 1, 1))),
+            Word(13, Ok((3, 1, 16))),
+            EndPage,
+            EndParagraph,
+            Word(14, Ok((4, 1, 1))),
+            EndPage,
+            Word(14, Ok((5, 1, 1))),
+            Word(15, Ok((5, 1, 16))),
+            Word(3, Ok((5, 1, 31))),
+            Word(15, Ok((5, 1, 46))),
+            Word(1, Ok((5, 1, 61))),
+            EndParagraph,
+            EndPage,
+            Word(1, Ok((6, 1, 1))),
         ],
     );
     Ok(())
@@ -184,36 +167,36 @@ fn sixty_rows(rt: HostRuntime) -> Result<(), Fail> {
         &rt,
         &mut form,
         &[
-            (Step::EndParagraph, Answer::Nothing),
-            (Step::EndParagraph, Answer::Nothing),
-            (Step::Rewind, Answer::Nothing),
-            (Step::Word(2), Answer::At(1, 1, 1)),
-            (Step::Rewind, Answer::Nothing),
-            (Step::Word(2), Answer::At(1, 1, 1)),
-            (Step::Word(2), Answer::At(1, 1, 14)),
-            (Step::Word(4), Answer::At(1, 1, 27)),
-            (Step::EndPage, Answer::Nothing),
-            (Step::Word(1), Answer::At(2, 1, 1)),
-            (Step::Word(5), Answer::At(2, 1, 14)),
-            (Step::Word(12), Answer::At(2, 1, 27)),
-            (Step::Word(8), Answer::At(2, 1, 40)),
-            (Step::Word(12), Answer::At(2, 1, 53)),
-            (Step::Word(7), Answer::At(2, 2, 1)),
-            (Step::EndParagraph, Answer::Nothing),
-            (Step::EndPage, Answer::Nothing),
-            (Step::Word(2), Answer::At(3, 1, 1)),
-            (Step::Word(1), Answer::At(3, 1, 14)),
-            (Step::Word(13), Answer::At(3, 1, 27)),
-            (Step::Word(2), Answer::At(3, 1, 40)),
-            (Step::Word(13), Answer::At(3, 1, 53)),
-            (Step::Word(13), Answer::At(3, 2, 1)),
-            (Step::Word(7), Answer::At(3, 2, 14)),
-            (Step::Word(73), Answer::Refused(14)),
-            (Step::Word(7), Answer::At(3, 2, 27)),
-            (Step::EndPage, Answer::Nothing),
-            (Step::Word(13), Answer::At(4, 1, 1)),
-            (Step::Word(7), Answer::At(4, 1, 14)),
-            (Step::Word(12), Answer::At(4, 1, 27)),
+            EndParagraph,
+            EndParagraph,
+            Rewind,
+            Word(2, Ok((1, 1, 1))),
+            Rewind,
+            Word(2, Ok((1, 1, 1))),
+            Word(2, Ok((1, 1, 14))),
+            Word(4, Ok((1, 1, 27))),
+            EndPage,
+            Word(1, Ok((2, 1, 1))),
+            Word(5, Ok((2, 1, 14))),
+            Word(12, Ok((2, 1, 27))),
+            Word(8, Ok((2, 1, 40))),
+            Word(12, Ok((2, 1, 53))),
+            Word(7, Ok((2, 2, 1))),
+            EndParagraph,
+            EndPage,
+            Word(2, Ok((3, 1, 1))),
+            Word(1, Ok((3, 1, 14))),
+            Word(13, Ok((3, 1, 27))),
+            Word(2, Ok((3, 1, 40))),
+            Word(13, Ok((3, 1, 53))),
+            Word(13, Ok((3, 2, 1))),
+            Word(7, Ok((3, 2, 14))),
+            Word(73, Err(14)),
+            Word(7, Ok((3, 2, 27))),
+            EndPage,
+            Word(13, Ok((4, 1, 1))),
+            Word(7, Ok((4, 1, 14))),
+            Word(12, Ok((4, 1, 27))),
         ],
     );
     Ok(())
@@ -222,13 +205,13 @@ fn sixty_rows(rt: HostRuntime) -> Result<(), Fail> {
 // After page 999 there is no page, for words that fill theirs and for ended pages alike.
 fn all_pages<P: Printing>(rt: &impl Abort, layout: &mut P) {
     for page in 1..1000 {
-        assert_eq!(rt; play(layout, Step::Word(1)), Answer::At(page, 1, 1));
+        assert_eq!(rt; set(layout, 1), Ok((page, 1, 1)));
         layout.end_page();
     }
-    assert_eq!(rt; play(layout, Step::Word(1)), Answer::Refused(15));
-    assert_eq!(rt; play(layout, Step::Word(73)), Answer::Refused(14));
+    assert_eq!(rt; set(layout, 1), Err(15));
+    assert_eq!(rt; set(layout, 73), Err(14));
     layout.rewind();
-    assert_eq!(rt; play(layout, Step::Word(1)), Answer::At(1, 1, 1));
+    assert_eq!(rt; set(layout, 1), Ok((1, 1, 1)));
 }
 
 #[test]
@@ -240,37 +223,21 @@ fn pages_used_up(rt: HostRuntime) -> Result<(), Fail> {
     Ok(())
 }
 
-fn refused_filler(rt: &impl Abort, width: usize, height: usize) -> Result<(), Fail> {
-    match LineFiller::new(width, height) {
-        Ok(_) => Err(Fail::new("settings out of range")),
-        Err(fault) => {
-            assert_eq!(rt; fault.cause.number(), 16);
-            Ok(())
-        },
-    }
-}
-
-fn refused_form(rt: &impl Abort, width: usize, cells: usize, rows: usize) -> Result<(), Fail> {
-    match FixedForm::new(width, cells, rows) {
-        Ok(_) => Err(Fail::new("settings out of range")),
-        Err(fault) => {
-            assert_eq!(rt; fault.cause.number(), 16);
-            Ok(())
-        },
-    }
+fn refused<L: Drop>(rt: &impl Abort, made: Result<L, Fault>) {
+    assert_eq!(rt; made.err().map(|fault| fault.cause.number()), Some(16));
 }
 
 #[test]
-fn settings_out_of_range(rt: HostRuntime) -> Result<(), Fail> {
-    refused_filler(&rt, 19, 1)?;
-    refused_filler(&rt, 121, 1)?;
-    refused_filler(&rt, 20, 0)?;
-    refused_filler(&rt, 20, 91)?;
-    refused_filler(&rt, 276, 257)?;
-    refused_form(&rt, 7, 3, 1)?;
-    refused_form(&rt, 41, 1, 1)?;
-    refused_form(&rt, 8, 2, 1)?;
-    refused_form(&rt, 16, 8, 1)?;
-    refused_form(&rt, 20, 1, 61)?;
-    refused_form(&rt, 40, 8, 1)
+fn settings_out_of_range(rt: HostRuntime) {
+    refused(&rt, LineFiller::new(19, 1));
+    refused(&rt, LineFiller::new(121, 1));
+    refused(&rt, LineFiller::new(20, 0));
+    refused(&rt, LineFiller::new(20, 91));
+    refused(&rt, LineFiller::new(276, 257));
+    refused(&rt, FixedForm::new(7, 3, 1));
+    refused(&rt, FixedForm::new(41, 1, 1));
+    refused(&rt, FixedForm::new(8, 2, 1));
+    refused(&rt, FixedForm::new(16, 8, 1));
+    refused(&rt, FixedForm::new(20, 1, 61));
+    refused(&rt, FixedForm::new(40, 8, 1));
 }

@@ -42,7 +42,7 @@ cells = page (word _ _ refl (word _ _ refl (word _ _ refl (word _ _ refl (page (
 
 -- the mark of a form with more cells
 abbrev fifth : CellMark
-fifth = record { page = 4; row = 2; cell = 5; paged = (omega arith, omega arith); celled = omega arith }
+fifth = record { page = record { number = 4; within = (omega arith, omega arith) }; row = 2; cell = 5; celled = omega arith }
 
 foreign : forming.spot trio fifth ≡ at 4 2 17
 foreign = refl

@@ -5,10 +5,9 @@ use Rattle.std.proofs.Common.{arith}
 use Rattle.std.proofs.lemmas.Bool.{cond_both, leb-true, eqb-true}
 use Rattle.layout.specs.Meaning.{Lawful, Proper, Outcome}
 use Rattle.layout.specs.declared.refusal.Refusal.{Refusal}
-use Rattle.layouts.specs.Lines.{or_refused, put, Sound}
+use Rattle.layouts.specs.Lines.{Place, or_refused, put, Sound}
 use Rattle.layouts.specs.LineLaws.{by_accepted, too_long, nearest_in_range, put_here, put_below, ends_paragraph, ends_page}
 use Rattle.layouts.specs.Filling.{filling, columns, before}
-use Rattle.layouts.specs.declared.place.Place.{Place}
 use Rattle.layouts.specs.declared.filler.state.Sheet.{Sheet}
 
 abbrev Good : Sheet → Place → ℕ → Outcome Place → Type 0
@@ -28,11 +27,11 @@ puts_fitting s q n h some short =
 pub filling_lawful : Lawful filling
 filling_lawful = record {
   sized = λ s. (s.high, s.wide);
-  marked = λ s k. k.paged;
+  marked = λ s k. k.page.within;
   fronted = λ s q. nearest_in_range q.page;
   too_long = λ s q w long. too_long (λ n. or_refused (put columns (λ c. c + n)) (before s q n)) s.width (length w) long;
   Sound = λ s q. Sound s.height s.width q;
-  held = λ x. (x.paged, x.lined, x.spaced);
+  held = λ x. x.sound;
   opens = λ s. ((omega arith, omega arith), (omega arith, s.high.0), omega arith);
   puts = λ s q w h. by_accepted (Good s q (length w)) (λ n. or_refused (put columns (λ c. c + n)) (before s q n)) s.width (length w) tt (λ some _ short. puts_fitting s q (length w) h some short);
   ends_paragraph = λ s q h. ends_paragraph s.height s.width columns q h (omega arith);

@@ -13,8 +13,7 @@ use Rattle.faults.specs.declared.fault.Fault.{Fault}
 use Rattle.layout.specs.Spots.{at, printed}
 use Rattle.layout.specs.Meaning.{Meaning, Outcome}
 use Rattle.layout.specs.declared.refusal.Refusal.{Refusal}
-use Rattle.layouts.specs.Lines.{place, opening, accepted, next_line_lem, paragraph_end, page_end, or_refused, put, front}
-use Rattle.layouts.specs.declared.place.Place.{Place}
+use Rattle.layouts.specs.Lines.{Place, place, reach, opening, accepted, next_line_lem, paragraph_end, page_end, or_refused, put, front}
 use Rattle.layouts.specs.declared.filler.state.Sheet.{Sheet}
 use Rattle.layouts.specs.declared.filler.state.LineMark.{LineMark}
 use Rattle.layouts.specs.declared.filler.state.LineFiller.{LineFiller}
@@ -36,10 +35,10 @@ filling = record {
   Settings = Sheet;
   Place = Place;
   settings = λ x. x.sheet;
-  place = λ x. x.place;
+  place = λ x. reach x.place;
   letter = 76;
   paper = λ s. printed s.height s.width;
-  spot = λ s k. at k.page k.line k.column;
+  spot = λ s k. at k.page.number k.line k.column;
   front = λ s q. front columns q;
   opening = λ s. opening;
   sets = sets;
@@ -48,11 +47,11 @@ filling = record {
 }
 
 abbrev pub Fronted : Type 0
-Fronted = (x : LineFiller) → filling.front x.sheet x.place ≡ at x.place.page x.place.line (x.place.used + 1)
+Fronted = (x : LineFiller) → filling.front x.sheet (reach x.place) ≡ at x.place.page.number x.place.line (x.place.used + 1)
 
 abbrev pub in_range : ℕ → ℕ → Bool
 in_range width height = (nat_le 20 width && nat_le width 120) && (nat_le 1 height && nat_le height 90)
 
 abbrev pub Made : ℕ → ℕ → Result LineFiller Fault → Type 0
-Made width height (Ok x) = (in_range width height ≡ true) × ((x.sheet.width ≡ width) × ((x.sheet.height ≡ height) × (x.place ≡ opening)))
+Made width height (Ok x) = (in_range width height ≡ true) × ((x.sheet.width ≡ width) × ((x.sheet.height ≡ height) × (reach x.place ≡ opening)))
 Made width height (Err e) = (in_range width height ≡ false) × (e ≡ plain LayoutSettings)

@@ -6,10 +6,9 @@ use Rattle.std.proofs.lemmas.Bool.{cond_both, ltb-true}
 use Rattle.layout.specs.Spots.{at}
 use Rattle.layout.specs.Meaning.{Lawful, Proper, Outcome, placed}
 use Rattle.layout.specs.declared.refusal.Refusal.{Refusal}
-use Rattle.layouts.specs.Lines.{place, next_line_lem, or_refused, put, Sound}
+use Rattle.layouts.specs.Lines.{Place, place, next_line_lem, or_refused, put, Sound}
 use Rattle.layouts.specs.LineLaws.{by_accepted, too_long, nearest_in_range, Room, put_here, put_below, ends_paragraph, ends_page}
 use Rattle.layouts.specs.Forming.{forming, used_columns, before, put_cell}
-use Rattle.layouts.specs.declared.place.Place.{Place}
 use Rattle.layouts.specs.declared.form.state.Grid.{Grid}
 
 abbrev Good : Grid → Place → ℕ → Outcome Place → Type 0
@@ -50,11 +49,11 @@ puts_fitting s q n h short =
 pub forming_lawful : Lawful forming
 forming_lawful = record {
   sized = λ s. ((s.high.0, omega arith), s.fits);
-  marked = λ s k. k.paged;
+  marked = λ s k. k.page.within;
   fronted = λ s q. nearest_in_range q.page;
   too_long = λ s q w long. too_long (λ n. or_refused (put_cell s) (before s q)) s.width (length w) long;
   Sound = λ s q. Sound s.rows s.cells q;
-  held = λ x. (x.paged, x.lined, x.spaced);
+  held = λ x. x.sound;
   opens = λ s. ((omega arith, omega arith), (omega arith, s.high.0), omega arith);
   puts = λ s q w h. by_accepted (Good s q (length w)) (λ n. or_refused (put_cell s) (before s q)) s.width (length w) tt (λ _ _ short. puts_fitting s q (length w) h short);
   ends_paragraph = λ s q h. ends_paragraph s.rows s.cells (used_columns s) q h (fewer_columns s q.used s.cells h.2);

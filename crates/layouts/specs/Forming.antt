@@ -16,8 +16,7 @@ use Rattle.faults.specs.declared.fault.Fault.{Fault}
 use Rattle.layout.specs.Spots.{at, printed}
 use Rattle.layout.specs.Meaning.{Meaning, Outcome, placed}
 use Rattle.layout.specs.declared.refusal.Refusal.{Refusal}
-use Rattle.layouts.specs.Lines.{place, opening, accepted, next_line_lem, paragraph_end, page_end, or_refused, front}
-use Rattle.layouts.specs.declared.place.Place.{Place}
+use Rattle.layouts.specs.Lines.{Place, place, reach, opening, accepted, next_line_lem, paragraph_end, page_end, or_refused, front}
 use Rattle.layouts.specs.declared.form.state.Grid.{Grid}
 use Rattle.layouts.specs.declared.form.state.CellMark.{CellMark}
 use Rattle.layouts.specs.declared.form.state.FixedForm.{FixedForm}
@@ -42,10 +41,10 @@ forming = record {
   Settings = Grid;
   Place = Place;
   settings = λ x. x.grid;
-  place = λ x. x.place;
+  place = λ x. reach x.place;
   letter = 70;
   paper = λ s. printed s.rows (s.cells * s.width);
-  spot = λ s k. at k.page k.row (column s k.cell);
+  spot = λ s k. at k.page.number k.row (column s k.cell);
   front = λ s q. front (used_columns s) q;
   opening = λ s. opening;
   sets = sets;
@@ -54,11 +53,11 @@ forming = record {
 }
 
 abbrev pub Fronted : Type 0
-Fronted = (x : FixedForm) → forming.front x.grid x.place ≡ at x.place.page x.place.line (x.place.used * x.grid.width + 1)
+Fronted = (x : FixedForm) → forming.front x.grid (reach x.place) ≡ at x.place.page.number x.place.line (x.place.used * x.grid.width + 1)
 
 abbrev pub in_range : ℕ → ℕ → ℕ → Bool
 in_range width cells rows = ((nat_le 8 width && nat_le width 40) && (nat_le 1 cells && nat_le cells 8)) && ((nat_le 1 rows && nat_le rows 60) && (nat_le 20 (cells * width) && nat_le (cells * width) 120))
 
 abbrev pub Made : ℕ → ℕ → ℕ → Result FixedForm Fault → Type 0
-Made width cells rows (Ok x) = (in_range width cells rows ≡ true) × ((x.grid.width ≡ width) × ((x.grid.cells ≡ cells) × ((x.grid.rows ≡ rows) × (x.place ≡ opening))))
+Made width cells rows (Ok x) = (in_range width cells rows ≡ true) × ((x.grid.width ≡ width) × ((x.grid.cells ≡ cells) × ((x.grid.rows ≡ rows) × (reach x.place ≡ opening))))
 Made width cells rows (Err e) = (in_range width cells rows ≡ false) × (e ≡ plain LayoutSettings)

@@ -14,8 +14,7 @@ use Rattle.layout.specs.Spots.{printed, nearest_page}
 use Rattle.layout.specs.Meaning.{Outcome, refused, Proper, Onward}
 use Rattle.layout.specs.declared.refusal.Refusal.{Refusal}
 use Rattle.layout.specs.declared.refusal.Refusal.TheVariants.{WordTooWide}
-use Rattle.layouts.specs.Lines.{place, accepted, next_line_lem, paragraph_end, page_end, or_refused, put, front, Sound}
-use Rattle.layouts.specs.declared.place.Place.{Place}
+use Rattle.layouts.specs.Lines.{Place, place, accepted, next_line_lem, paragraph_end, page_end, or_refused, put, front, Sound}
 
 pub by_accepted : (P : Outcome Place → Type 0) (f : ℕ → Outcome Place) (width n : ℕ) → P (refused WordTooWide) → (1 ≤ n → n ≤ 72 → n ≤ width → P (f n)) → P (or_refused f (accepted width n))
 by_accepted P f width n wide fits =

@@ -1,5 +1,7 @@
 -- What the line filler and the fixed form have in common.
+--   Place            a place as three numbers: the page, the line, and how much of the line is used
 --   place            a place from its three numbers
+--   reach, reached   the numbers of a place of the code, and of one that is answered
 --   opening          line 1 of page 1, with nothing used
 --   accepted         how many bytes a word has: 1 to 72, and no more than the width that it may take
 --   next_line_lem    the beginning of the next line; after the last line of page 999 there is none
@@ -14,10 +16,22 @@ use Rattle.layout.specs.Spots.{Spot, at, Page, nearest_page}
 use Rattle.layout.specs.Meaning.{Outcome, refused, placed}
 use Rattle.layout.specs.declared.refusal.Refusal.{Refusal}
 use Rattle.layout.specs.declared.refusal.Refusal.TheVariants.{WordTooWide, PagesUsedUp}
-use Rattle.layouts.specs.declared.place.Place.{Place}
+use Rattle.layouts.specs.declared.place.Place.{Place as PlaceOfPages}
+
+pub record Place : Type 0 where
+  pub page : ℕ
+  pub line : ℕ
+  pub used : ℕ
 
 abbrev pub place : ℕ → ℕ → ℕ → Place
 place p l c = record { page = p; line = l; used = c }
+
+abbrev pub reach : PlaceOfPages → Place
+reach q = place q.page.number q.line q.used
+
+abbrev pub reached : Result PlaceOfPages Refusal → Result Place Refusal
+reached (Ok q) = Ok (reach q)
+reached (Err e) = Err e
 
 abbrev pub opening : Place
 opening = place 1 1 0

@@ -1,13 +1,14 @@
 // The line filler.
-ghost use Rattle.std.specs.Prelude.{◌≡◌, ◌+◌, ◌≤◌, IfOk};
-ghost use Rattle.layout.specs.Spots.{Page};
+ghost use Rattle.std.specs.Prelude.{◌≡◌, refl, ◌+◌, ◌≤◌, IfOk};
 ghost use Rattle.layouts.specs.FillerLaws.{filling_lawful};
 ghost use Rattle.layouts.specs.Filling.{filling, before, Made};
+ghost use Rattle.layouts.specs.Lines.{reach, reached};
 
 use crate::lines::accept;
 use crate::place::Place;
 use faults::{Cause, Fault};
 use layout::{Layout, Printing, Refusal};
+use pages::Page;
 pub use state::{LineFiller, LineMark, Sheet};
 
 mod state;
@@ -17,10 +18,8 @@ impl LineFiller {
     pub fn new(width: usize, height: usize) -> Result<LineFiller, Fault>
         ensures { Made width height result }
     {
-        if width < 20 || width > 120 {
-            return Err(Fault::plain(Cause::LayoutSettings));
-        }
-        if height < 1 || height > 90 {
+        let in_range = (20..=120).contains(&width) && (1..=90).contains(&height);
+        if !in_range {
             return Err(Fault::plain(Cause::LayoutSettings));
         }
         Ok(LineFiller {
@@ -34,21 +33,19 @@ impl LineFiller {
 
     // The place right before the next word, if that has `n` bytes: what is used there lies left of it.
     fn before(&self, n: u8) -> Result<Place, Refusal>
-        ensures value { result ≡ before self.now.sheet self.now.place n }
-        ensures page { IfOk result (λ q. Page q.page) }
+        ensures value { reached result ≡ before self.now.sheet (reach self.now.place) n }
         ensures line { IfOk result (λ q. (1 ≤ q.line) × (q.line ≤ self.now.sheet.height)) }
         ensures room { n ≤ self.now.sheet.width → IfOk result (λ q. q.used + n ≤ self.now.sheet.width) }
     {
-        let Place { page, line, used } = self.place;
+        let used = self.place.used;
         if used == 0 {
             return Ok(self.place);
         }
         // the space and the word fit what is left of the line
         if n < self.sheet.width - used {
             return Ok(Place {
-                page,
-                line,
                 used: used + 1,
+                ..self.place
             });
         }
         self.place.next_line(self.sheet.height)
@@ -60,13 +57,13 @@ impl Layout for LineFiller {
 
     const LETTER: u8 = b'L';
 
+    ghost LETTER = { 76 };
+
     ghost meaning = { filling };
 
     ghost lawful = { filling_lawful };
 
-    fn kind_letter() -> u8 {
-        Self::LETTER
-    }
+    ghost lettered = { refl };
 
     fn rewind(&mut self) {
         self.place = Place::opening();
@@ -95,7 +92,7 @@ impl Layout for LineFiller {
         self.place = self.place.end_page(self.sheet.height, self.sheet.width);
     }
 
-    fn page(&self, mark: LineMark) -> u16 {
+    fn page(&self, mark: LineMark) -> Page {
         mark.page
     }
 }

@@ -1,13 +1,14 @@
 // The fixed form.
-ghost use Rattle.std.specs.Prelude.{◌≡◌, ◌+◌, ◌<◌, ◌≤◌, IfOk};
-ghost use Rattle.layout.specs.Spots.{Page};
+ghost use Rattle.std.specs.Prelude.{◌≡◌, refl, ◌+◌, ◌<◌, ◌≤◌, IfOk};
 ghost use Rattle.layouts.specs.FormLaws.{forming_lawful};
 ghost use Rattle.layouts.specs.Forming.{forming, before, Made};
+ghost use Rattle.layouts.specs.Lines.{reach, reached};
 
 use crate::lines::accept;
 use crate::place::Place;
 use faults::{Cause, Fault};
 use layout::{Layout, Printing, Refusal};
+use pages::Page;
 pub use state::{CellMark, FixedForm, Grid};
 
 mod state;
@@ -18,17 +19,11 @@ impl FixedForm {
     pub fn new(width: usize, cells: usize, rows: usize) -> Result<FixedForm, Fault>
         ensures { Made width cells rows result }
     {
-        if width < 8 || width > 40 {
-            return Err(Fault::plain(Cause::LayoutSettings));
-        }
-        if cells < 1 || cells > 8 {
-            return Err(Fault::plain(Cause::LayoutSettings));
-        }
-        if rows < 1 || rows > 60 {
-            return Err(Fault::plain(Cause::LayoutSettings));
-        }
-        let columns = cells * width;
-        if columns < 20 || columns > 120 {
+        let in_range = (8..=40).contains(&width)
+            && (1..=8).contains(&cells)
+            && (1..=60).contains(&rows)
+            && (20..=120).contains(&(cells * width));
+        if !in_range {
             return Err(Fault::plain(Cause::LayoutSettings));
         }
         Ok(FixedForm {
@@ -43,8 +38,7 @@ impl FixedForm {
 
     // The place right before the next word.
     fn before(&self) -> Result<Place, Refusal>
-        ensures value { result ≡ before self.now.grid self.now.place }
-        ensures page { IfOk result (λ q. Page q.page) }
+        ensures value { reached result ≡ before self.now.grid (reach self.now.place) }
         ensures line { IfOk result (λ q. (1 ≤ q.line) × (q.line ≤ self.now.grid.rows)) }
         ensures room { IfOk result (λ q. q.used < self.now.grid.cells) }
     {
@@ -60,13 +54,13 @@ impl Layout for FixedForm {
 
     const LETTER: u8 = b'F';
 
+    ghost LETTER = { 70 };
+
     ghost meaning = { forming };
 
     ghost lawful = { forming_lawful };
 
-    fn kind_letter() -> u8 {
-        Self::LETTER
-    }
+    ghost lettered = { refl };
 
     fn rewind(&mut self) {
         self.place = Place::opening();
@@ -96,7 +90,7 @@ impl Layout for FixedForm {
         self.place = self.place.end_page(self.grid.rows, self.grid.cells);
     }
 
-    fn page(&self, mark: CellMark) -> u16 {
+    fn page(&self, mark: CellMark) -> Page {
         mark.page
     }
 }

@@ -1,4 +1,5 @@
 // What the laws give of whole runs, at each of the two layouts.
+// Calls of the generic functions of `layout`, one for each layout: each contract names what its settings are.
 ghost use Rattle.std.specs.Prelude.{◌≡◌, ◌*◌};
 ghost use Rattle.layout.specs.Runs.{ReadingOrder, ReadsWithin};
 ghost use Rattle.layouts.specs.Filling.{filling, Fronted as FillerFronted};

@@ -1,8 +1,10 @@
 -- The verdict is right, by what the numbers stand for along a run. Assumes nothing.
 use Rattle.std.proofs.Common.{◌≡◌, ℕ, suc, ◌+◌, ◌-◌, ◌*◌, ◌<◌, ◌≤◌, Bool, true, false, cond, eqb, Some, Decides, Option, sym, refl, ap, ◌∙◌, subst, ⊎_elim, arith}
 use mathlib.Core.Bool.{false≢true}
+use Rattle.std.proofs.lemmas.Option.{same_Some}
 use Rattle.std.proofs.lemmas.Bool.{cases_lt, eqb-false, eq-eqb, ne_eqb}
-use Rattle.verdict.specs.Brent.{numbers, takes, ruled, at_anchor_lem, kind_number, verdict_of}
+use Rattle.verdict.specs.Brent.{numbers, takes, ruled, at_anchor_lem, verdict_of}
+use Rattle.verdict.specs.Said.{kind_number, said}
 use Rattle.verdict.specs.Runs.{next, run, Rests, Period, Reached, begun, passed, Right, AlwaysRight}
 use Rattle.verdict.specs.declared.outcome.Outcome.{Outcome}
 use Rattle.verdict.specs.declared.outcome.Outcome.TheVariants.{Open, Settled, Oscillates}
@@ -23,10 +25,6 @@ module _ {X : Type 0} (f : X → Option X) (x₀ : X) where
   abbrev Stands : Progress → X → X → Type 0
   Stands p c a = (p.anchor ≤ p.passes) × (x p.passes ≡ Some c) × (x p.anchor ≡ Some a) × Known p.outcome p.passes p.anchor
 
-  -- what both sides hold is the same
-  same_some : {c d : X} → ◌≡◌ {A = Option X} (Some c) (Some d) → c ≡ d
-  same_some e = cc
-
   -- different outcomes have different numbers
   apart : (o u : Outcome) → eqb (kind_number o) (kind_number u) ≡ false → o ≡ u → ⊥
   apart o u d e = eqb-false (kind_number o) (kind_number u) d (ap kind_number e)
@@ -42,7 +40,7 @@ module _ {X : Type 0} (f : X → Option X) (x₀ : X) where
         let here : j ≡ n = omega arith in
         let p : x n ≡ Some y = subst (λ k. x k ≡ Some y) here before in
         let q : x (suc n) ≡ Some y = subst (λ k. x (suc k) ≡ Some y) here after in
-        other (same_some (sym made ∙ q ∙ sym p ∙ current)))
+        other (same_Some _ _ (sym made ∙ q ∙ sym p ∙ current)))
         (cases_lt j n)
 
     -- what is not the anchor's record is not met again
@@ -53,7 +51,7 @@ module _ {X : Type 0} (f : X → Option X) (x₀ : X) where
         (λ late.
         let here : j ≡ suc n = omega arith in
         let p : x (suc n) ≡ x b = subst (λ k. x k ≡ x b) here e in
-        other (same_some (sym made ∙ p ∙ anchor)))
+        other (same_Some _ _ (sym made ∙ p ∙ anchor)))
         (cases_lt j (suc n))
 
     -- an anchor that stays keeps its record
@@ -102,7 +100,7 @@ module _ {X : Type 0} (f : X → Option X) (x₀ : X) where
       subst (λ t. let q = cond t (ruling (p.passes + 1)) p in Stands q d (cond (at_anchor_lem q) d a)) (sym room) counted
 
   -- what they stand for makes the verdict right
-  right_by : (o : Outcome) (n b w : ℕ) (c : X) → x n ≡ Some c → Known o n b → Right f x₀ (verdict_of (numbers n b w o))
+  right_by : (o : Outcome) (n b w : ℕ) (c : X) → x n ≡ Some c → Known o n b → Right f x₀ (said (verdict_of (numbers n b w o)))
   right_by Open n b w c t (moving, fresh) = record {
     settled = λ e. absurd (apart Open Settled refl e);
     rests = λ k l r. absurd (moving k l r);

@@ -1,28 +1,23 @@
 -- Computed examples: records that are one page number, from page 0.
---   read         the verdict on pages taken in one after the other
+--   read         what is said of pages taken in one after the other
 --   verdict_on   the same from the start
---   says         a verdict of these numbers
 --   still        a step that stays at 3
 --   swing        a step that swings between 3 and 4
 use Rattle.std.specs.Prelude.{◌≡◌, ℕ, true, false, cond, List, [], ◌∷◌, Some, Decides, Option, ◌==◌, nat_eq, refl}
 use Rattle.std.proofs.Common.{ap}
 use Rattle.std.proofs.lemmas.Bool.{false≢true}
 use Rattle.verdict.specs.Brent.{numbers, start, advanced, at_anchor_lem, verdict_of}
+use Rattle.verdict.specs.Said.{Said, says, said}
 use Rattle.verdict.specs.Runs.{Reached, begun, passed}
-use Rattle.verdict.specs.declared.outcome.Outcome.{Outcome}
 use Rattle.verdict.specs.declared.outcome.Outcome.TheVariants.{Open, Settled, Oscillates}
-use Rattle.verdict.specs.declared.outcome.Verdict.{Verdict}
 use Rattle.verdict.specs.declared.progress.Progress.{Progress}
 
-abbrev read : Progress → ℕ → ℕ → List ℕ → Verdict
-read p c a [] = verdict_of p
+abbrev read : Progress → ℕ → ℕ → List ℕ → Said
+read p c a [] = said (verdict_of p)
 read p c a (n ∷ ns) = read (advanced (n == c) (n == a) p) n (cond (at_anchor_lem (advanced (n == c) (n == a) p)) n a) ns
 
-abbrev verdict_on : List ℕ → Verdict
+abbrev verdict_on : List ℕ → Said
 verdict_on = read start 0 0
-
-abbrev says : Outcome → ℕ → ℕ → ℕ → Verdict
-says o k q s = record { kind = o; passes = k; period = q; since = s }
 
 settles : verdict_on (3 ∷ 3 ∷ []) ≡ says Settled 2 1 1
 settles = refl

@@ -1,3 +1,4 @@
+pub mod Said
 pub mod Brent
 pub mod Runs
 pub mod Examples

@@ -6,10 +6,11 @@
 --   Rests           the step from x(k) was accepted and gave back x(k)
 --   Period          q is a period from pass b on
 --   Reached         the numbers, the current record and the anchor's record that accepted steps lead to
---   Right           what a verdict says of a run is true
+--   Right           what is said of a run is true
 --   AlwaysRight     so is the verdict that a progress gives, in every run of records X that leads to it
 use Rattle.std.specs.Prelude.{◌≡◌, ℕ, zero, suc, ◌+◌, ◌<◌, ◌≤◌, Bool, true, cond, Some, None, Decides, Option, ◌≢◌}
 use Rattle.verdict.specs.Brent.{start, takes, advanced, at_anchor_lem}
+use Rattle.verdict.specs.Said.{Said, said}
 use Rattle.verdict.specs.declared.outcome.Outcome.TheVariants.{Open, Settled, Oscillates}
 use Rattle.verdict.specs.declared.outcome.Verdict.{Verdict}
 use Rattle.verdict.specs.declared.progress.Progress.{Progress}
@@ -41,7 +42,7 @@ module _ {X : Type 0} (f : X → Option X) (x₀ : X) where
     begun : Reached start x₀ x₀
     passed : (p : Progress) (c a n : X) (again back : Bool) → Reached p c a → takes p ≡ true → f c ≡ Some n → Decides again (n ≡ c) → Decides back (n ≡ a) → Reached (advanced again back p) n (cond (at_anchor_lem (advanced again back p)) n a)
 
-  pub record Right (v : Verdict) : Type 0 where
+  pub record Right (v : Said) : Type 0 where
     -- settled is said exactly when a step gave back what it began with: it is the last step made
     pub settled : v.kind ≡ Settled → (v.passes ≡ suc v.since) × Rests v.since
     pub rests : (k : ℕ) → k < v.passes → Rests k → v.kind ≡ Settled
@@ -53,4 +54,4 @@ module _ {X : Type 0} (f : X → Option X) (x₀ : X) where
     pub least : (v.kind ≢ Open) → (q : ℕ) → Period v.since q → v.period ≤ q
 
 abbrev pub AlwaysRight : Type 0 → Progress → Verdict → Type 0
-AlwaysRight X p v = (f : X → Option X) (x₀ c a : X) → Reached f x₀ p c a → (run f x₀ p.passes ≡ Some c) × (run f x₀ p.anchor ≡ Some a) × Right f x₀ v
+AlwaysRight X p v = (f : X → Option X) (x₀ c a : X) → Reached f x₀ p c a → (run f x₀ p.passes ≡ Some c) × (run f x₀ p.anchor ≡ Some a) × Right f x₀ (said v)

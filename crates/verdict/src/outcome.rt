@@ -1,21 +1,22 @@
 // What can be said of a run.
 ghost use Rattle.std.specs.Prelude.{◌≡◌};
-ghost use Rattle.verdict.specs.Brent.{kind_number};
+ghost use Rattle.verdict.specs.Said.{kind_number, said};
 
+// The kinds of what is said, as answers number them.
 #[derive(Clone, Copy, PartialEq, Eq, Debug)]
 pub enum Outcome {
-    Open,
-    Settled,
-    Oscillates,
+    Open = 0,
+    Settled = 1,
+    Oscillates = 2,
 }
 
-// What is said, after how many passes, and the period with a pass from which on it holds (0 and 0 while open).
+// What is said after so many passes, and where a period is named, from which pass on it holds.
 #[derive(Clone, Copy, PartialEq, Eq, Debug)]
-pub struct Verdict {
-    pub kind: Outcome,
-    pub passes: u8,
-    pub period: u8,
-    pub since: u8,
+pub enum Verdict {
+    Open { passes: u8 },
+    // the period is 1
+    Settled { passes: u8, since: u8 },
+    Oscillates { passes: u8, period: u8, since: u8 },
 }
 
 impl Outcome {
@@ -23,10 +24,49 @@ impl Outcome {
     pub fn number(self) -> u8
         ensures value { result ≡ kind_number self }
     {
+        self as u8
+    }
+}
+
+impl Verdict {
+    pub fn outcome(self) -> Outcome
+        ensures value { result ≡ (said self).kind }
+    {
         match self {
-            Outcome::Open => 0,
-            Outcome::Settled => 1,
-            Outcome::Oscillates => 2,
+            Verdict::Open { .. } => Outcome::Open,
+            Verdict::Settled { .. } => Outcome::Settled,
+            Verdict::Oscillates { .. } => Outcome::Oscillates,
+        }
+    }
+
+    pub fn passes(self) -> u8
+        ensures value { result ≡ (said self).passes }
+    {
+        match self {
+            Verdict::Open { passes }
+            | Verdict::Settled { passes, .. }
+            | Verdict::Oscillates { passes, .. } => passes,
+        }
+    }
+
+    // The period that is named, 0 while open.
+    pub fn period(self) -> u8
+        ensures value { result ≡ (said self).period }
+    {
+        match self {
+            Verdict::Open { .. } => 0,
+            Verdict::Settled { .. } => 1,
+            Verdict::Oscillates { period, .. } => period,
+        }
+    }
+
+    // The pass that it is named from, 0 while open.
+    pub fn since(self) -> u8
+        ensures value { result ≡ (said self).since }
+    {
+        match self {
+            Verdict::Open { .. } => 0,
+            Verdict::Settled { since, .. } | Verdict::Oscillates { since, .. } => since,
         }
     }
 }

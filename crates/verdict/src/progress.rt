@@ -1,7 +1,8 @@
 // Brent's rule on plain numbers. Every call takes any numbers: differences stop at 0, and a progress that has its verdict, or
 // has counted 255 passes, stays as it is.
 ghost use Rattle.std.specs.Prelude.{◌≡◌};
-ghost use Rattle.verdict.specs.Brent.{start, takes, advanced, at_anchor_lem, verdict_of};
+ghost use Rattle.verdict.specs.Brent.{start, takes, advanced, at_anchor_lem, verdict_of, said_of};
+ghost use Rattle.verdict.specs.Said.{said};
 
 use crate::outcome::{Outcome, Verdict};
 
@@ -30,10 +31,7 @@ impl Progress {
     pub fn takes_pass(self) -> bool
         ensures value { result ≡ takes self }
     {
-        match self.outcome {
-            Outcome::Open => self.passes < 255,
-            Outcome::Settled | Outcome::Oscillates => false,
-        }
+        self.outcome == Outcome::Open && self.passes < 255
     }
 
     // Takes in an accepted pass, told whether its record is that of the pass before and whether it is the anchor's.
@@ -79,23 +77,16 @@ impl Progress {
 
     pub fn verdict(self) -> Verdict
         ensures value { result ≡ verdict_of self }
+        ensures numbers { said result ≡ said_of self }
     {
         let passes = self.passes;
         match self.outcome {
-            Outcome::Open => Verdict {
-                kind: Outcome::Open,
+            Outcome::Open => Verdict::Open { passes },
+            Outcome::Settled => Verdict::Settled {
                 passes,
-                period: 0,
-                since: 0,
-            },
-            Outcome::Settled => Verdict {
-                kind: Outcome::Settled,
-                passes,
-                period: 1,
                 since: passes.saturating_sub(1),
             },
-            Outcome::Oscillates => Verdict {
-                kind: Outcome::Oscillates,
+            Outcome::Oscillates => Verdict::Oscillates {
                 passes,
                 period: passes.saturating_sub(self.anchor),
                 since: self.anchor,

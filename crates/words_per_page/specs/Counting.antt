@@ -1,5 +1,7 @@
 -- A page takes a fixed number of words.
+--   Count      a place as two numbers: the page, and how many words it has
 --   place      a place from its two numbers
+--   counted    the numbers of a place of the code
 --   sets       what comes of setting a word
 --   counting   the meaning of the layout
 --   Made       what the making call answers
@@ -8,12 +10,19 @@ use Rattle.layout.specs.Spots.{on, paged, nearest_page}
 use Rattle.layout.specs.Meaning.{Meaning, Outcome, refused, placed}
 use Rattle.layout.specs.declared.refusal.Refusal.TheVariants.{WordTooWide, PagesUsedUp}
 use Rattle.words_per_page.specs.declared.state.Quota.{Quota}
-use Rattle.words_per_page.specs.declared.state.Count.{Count}
+use Rattle.words_per_page.specs.declared.state.Count.{Count as CountOfPages}
 use Rattle.words_per_page.specs.declared.state.PageMark.{PageMark}
 use Rattle.words_per_page.specs.declared.state.WordsPerPage.{WordsPerPage}
 
+pub record Count : Type 0 where
+  pub page : ℕ
+  pub words : ℕ
+
 abbrev pub place : ℕ → ℕ → Count
 place p c = record { page = p; words = c }
+
+abbrev pub counted : CountOfPages → Count
+counted q = place q.page.number q.words
 
 abbrev pub put : ℕ → ℕ → ℕ → Outcome Count
 put limit p c = cond (nat_lt c limit) (placed (on p) (place p (c + 1))) (cond (nat_lt p 999) (placed (on (p + 1)) (place (p + 1) 1)) (refused PagesUsedUp))
@@ -26,10 +35,10 @@ counting = record {
   Settings = Quota;
   Place = Count;
   settings = λ x. x.quota;
-  place = λ x. x.count;
+  place = λ x. counted x.count;
   letter = 87;
   paper = λ s. paged;
-  spot = λ s k. on k.page;
+  spot = λ s k. on k.page.number;
   front = λ s q. on (nearest_page q.page);
   opening = λ s. place 1 0;
   sets = sets;
@@ -38,7 +47,7 @@ counting = record {
 }
 
 abbrev pub Made : ℕ → Option WordsPerPage → Type 0
-Made n (Some x) = (x.quota.words ≡ n) × (x.count ≡ place 1 0)
+Made n (Some x) = (x.quota.words ≡ n) × (counted x.count ≡ place 1 0)
 Made n None = n ≡ 0
 
 overleaf : put 2 7 2 ≡ placed (on 8) (place 8 1)

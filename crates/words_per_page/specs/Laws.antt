@@ -7,9 +7,8 @@ use Rattle.std.proofs.lemmas.Bool.{cond_both, or_parts, ltb-true, ltb-false, eqb
 use Rattle.layout.specs.Spots.{Page}
 use Rattle.layout.specs.Meaning.{Lawful, Proper, Onward, refused}
 use Rattle.layout.specs.declared.refusal.Refusal.TheVariants.{WordTooWide}
-use Rattle.words_per_page.specs.Counting.{counting, sets}
+use Rattle.words_per_page.specs.Counting.{Count, counting, sets}
 use Rattle.words_per_page.specs.declared.state.Quota.{Quota}
-use Rattle.words_per_page.specs.declared.state.Count.{Count}
 
 abbrev Sound : Quota → Count → Type 0
 Sound s q = Page q.page × (q.words ≤ s.words)
@@ -35,11 +34,11 @@ puts s q w h =
 pub counting_lawful : Lawful counting
 counting_lawful = record {
   sized = λ s. tt;
-  marked = λ s k. k.paged;
+  marked = λ s k. k.page.within;
   fronted = λ s q. (omega arith, omega arith);
   too_long = too_long;
   Sound = Sound;
-  held = λ x. (x.paged, x.counted);
+  held = λ x. (x.count.page.within, x.counted);
   opens = λ s. ((omega arith, omega arith), omega arith);
   puts = puts;
   ends_paragraph = λ s q h. (omega arith, h);

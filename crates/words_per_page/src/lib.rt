@@ -1,14 +1,28 @@
 // The smallest layout, as an example: a page takes a fixed number of words. It knows no lines, so it pages and does not print.
 #![tactic(auto)]
 
+ghost use Rattle.std.specs.Prelude.{◌≡◌, refl};
 ghost use Rattle.layout.specs.Runs.{ReadingOrder};
-ghost use Rattle.words_per_page.specs.Counting.{counting, Made};
+ghost use Rattle.words_per_page.specs.Counting.{counting, counted, place, Made};
 ghost use Rattle.words_per_page.specs.Laws.{counting_lawful};
 
 use layout::{Layout, Refusal, reading_order};
+use pages::Page;
 pub use state::{Count, PageMark, Quota, WordsPerPage};
 
 mod state;
+
+impl Count {
+    // Page 1, with no word on it.
+    fn opening() -> Count
+        ensures { counted result ≡ place 1 0 }
+    {
+        Count {
+            page: Page::first(),
+            words: 0,
+        }
+    }
+}
 
 impl WordsPerPage {
     // At the opening place; a page takes at least one word.
@@ -20,7 +34,7 @@ impl WordsPerPage {
         }
         Some(WordsPerPage {
             quota: Quota { words },
-            count: Count { page: 1, words: 0 },
+            count: Count::opening(),
         })
     }
 }
@@ -30,23 +44,20 @@ impl Layout for WordsPerPage {
 
     const LETTER: u8 = b'W';
 
+    ghost LETTER = { 87 };
+
     ghost meaning = { counting };
 
     ghost lawful = { counting_lawful };
 
-    fn kind_letter() -> u8 {
-        Self::LETTER
-    }
+    ghost lettered = { refl };
 
     fn rewind(&mut self) {
-        self.count = Count { page: 1, words: 0 };
+        self.count = Count::opening();
     }
 
     fn set(&mut self, word: &[u8]) -> Result<PageMark, Refusal> {
-        if word.is_empty() {
-            return Err(Refusal::WordTooWide);
-        }
-        if word.len() > 72 {
+        if word.is_empty() || word.len() > 72 {
             return Err(Refusal::WordTooWide);
         }
         let Count { page, words } = self.count;
@@ -54,14 +65,12 @@ impl Layout for WordsPerPage {
             self.count.words = words + 1;
             return Ok(PageMark { page });
         }
-        if page < 999 {
-            self.count = Count {
-                page: page + 1,
-                words: 1,
-            };
-            return Ok(PageMark { page: page + 1 });
-        }
-        Err(Refusal::PagesUsedUp)
+        let next = page.next().ok_or(Refusal::PagesUsedUp)?;
+        self.count = Count {
+            page: next,
+            words: 1,
+        };
+        Ok(PageMark { page: next })
     }
 
     fn end_paragraph(&mut self) {}
@@ -72,7 +81,7 @@ impl Layout for WordsPerPage {
         }
     }
 
-    fn page(&self, mark: PageMark) -> u16 {
+    fn page(&self, mark: PageMark) -> Page {
         mark.page
     }
 }

@@ -1,6 +1,8 @@
 // The settings, the place, the marks and the value of the layout.
 ghost use Rattle.std.specs.Prelude.{◌≤◌};
 
+use pages::Page;
+
 // The settings: how many words a page takes.
 #[derive(Clone, Copy)]
 pub struct Quota {
@@ -11,21 +13,19 @@ pub struct Quota {
 // The page, and how many words it has.
 #[derive(Clone, Copy)]
 pub struct Count {
-    pub(crate) page: u16,
+    pub(crate) page: Page,
     pub(crate) words: u8,
 }
 
 // The page of a word.
 #[derive(Clone, Copy)]
 pub struct PageMark {
-    pub(crate) page: u16,
-    ghost paged: { (1 ≤ page) × (page ≤ 999) },
+    pub(crate) page: Page,
 }
 
 #[derive(Drop)]
 pub struct WordsPerPage {
     pub(crate) quota: Quota,
     pub(crate) count: Count,
-    ghost paged: { (1 ≤ count.page) × (count.page ≤ 999) },
     ghost counted: { count.words ≤ quota.words },
 }

@@ -1,7 +1,9 @@
 // The settings, the marks and the value of a line filler.
 ghost use Rattle.std.specs.Prelude.{◌≤◌};
+ghost use Rattle.layouts.specs.Lines.{reach, Sound};
 
 use crate::place::Place;
+use pages::Page;
 
 // The settings: columns to a line, lines to a page.
 #[derive(Clone, Copy)]
@@ -15,10 +17,9 @@ pub struct Sheet {
 // The first column of a word.
 #[derive(Clone, Copy)]
 pub struct LineMark {
-    pub(crate) page: u16,
+    pub(crate) page: Page,
     pub(crate) line: u8,
     pub(crate) column: u8,
-    ghost paged: { (1 ≤ page) × (page ≤ 999) },
 }
 
 // Fills lines with words, one space between two words of a line.
@@ -26,7 +27,5 @@ pub struct LineMark {
 pub struct LineFiller {
     pub(crate) sheet: Sheet,
     pub(crate) place: Place,
-    ghost paged: { (1 ≤ place.page) × (place.page ≤ 999) },
-    ghost lined: { (1 ≤ place.line) × (place.line ≤ sheet.height) },
-    ghost spaced: { place.used ≤ sheet.width },
+    ghost sound: { Sound sheet.height sheet.width (reach place) },
 }

@@ -1,7 +1,9 @@
 // The settings, the marks and the value of a fixed form.
 ghost use Rattle.std.specs.Prelude.{◌*◌, ◌≤◌};
+ghost use Rattle.layouts.specs.Lines.{reach, Sound};
 
 use crate::place::Place;
+use pages::Page;
 
 // The settings: columns to a cell, cells to a row, rows to a page.
 #[derive(Clone, Copy)]
@@ -18,10 +20,9 @@ pub struct Grid {
 // The cell of a word, from 1.
 #[derive(Clone, Copy)]
 pub struct CellMark {
-    pub(crate) page: u16,
+    pub(crate) page: Page,
     pub(crate) row: u8,
     pub(crate) cell: u8,
-    ghost paged: { (1 ≤ page) × (page ≤ 999) },
     ghost celled: { 1 ≤ cell },
 }
 
@@ -30,7 +31,5 @@ pub struct CellMark {
 pub struct FixedForm {
     pub(crate) grid: Grid,
     pub(crate) place: Place,
-    ghost paged: { (1 ≤ place.page) × (place.page ≤ 999) },
-    ghost lined: { (1 ≤ place.line) × (place.line ≤ grid.rows) },
-    ghost spaced: { place.used ≤ grid.cells },
+    ghost sound: { Sound grid.rows grid.cells (reach place) },
 }
