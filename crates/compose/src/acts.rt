@@ -15,9 +15,9 @@ pub enum Role {
     Contents,
 }
 
-// The line that makes a word appear, and the name in its mark, as a fault has them.
+// The line that makes a word appear, and the name in its mark, if it has one, as a fault has them.
 #[derive(Clone, Copy)]
 pub struct Source {
     pub line: usize,
-    pub name: Span,
+    pub name: Option<Span>,
 }

@@ -2,6 +2,8 @@
 #![tactic(auto)]
 
 pub use making::make_pass;
+pub use task::{Spare, Task};
 
 mod making;
+mod task;
 mod walking;

@@ -7,51 +7,34 @@ ghost use Rattle.record.specs.Lists.{lists_of};
 ghost use Rattle.passes.specs.Entries.{EntriesMade};
 ghost use Rattle.passes.specs.Next.{next, Makes, ApartMade};
 
+use crate::task::{Spare, Task};
 use crate::walking::walk_through;
 use faults::Fault;
-use findings::{Findings, findings_hold};
+use findings::findings_hold;
 use layout::Layout;
-use manuscript::Manuscript;
-use typeset::{NumeralBuffer, Telling};
 
 // Walks through the manuscript, and tells what that makes of the record before.
-fn find_words<L: Layout>(
-    manuscript: Manuscript,
-    telling: Telling,
-    pass: u8,
-    numerals: &mut NumeralBuffer,
-    layout: &mut L,
-    findings: &mut Findings,
-) -> Result<(), Fault>
-    ensures found { next L.Layout.meaning (L.Layout.meaning.settings layout.old) telling.entry.style manuscript.entry.text.now pass (lists_of telling.entry.old.now) ≡ told result (kept_of findings.new) }
-    ensures apart { ApartMade result (kept_of findings.new).lists }
-    ensures entries { EntriesMade manuscript.entry.text.now result (kept_of findings.new).lists }
+fn find_words<L: Layout>(task: Task, layout: &mut L, spare: &mut Spare) -> Result<(), Fault>
+    ensures found { next L.Layout.meaning (L.Layout.meaning.settings layout.old) task.entry.telling.style task.entry.manuscript.text.now task.entry.pass (lists_of task.entry.telling.old.now) ≡ told result (kept_of spare.new.findings) }
+    ensures apart { ApartMade result (kept_of spare.new.findings).lists }
+    ensures entries { EntriesMade task.entry.manuscript.text.now result (kept_of spare.new.findings).lists }
     ensures settings { L.Layout.meaning.settings layout.new ≡ L.Layout.meaning.settings layout.old }
 {
     findings_hold::<L>();
-    walk_through(manuscript, telling, pass, numerals, layout, findings)
+    walk_through(task, layout, spare)
 }
 
-// Makes a pass from the record that `telling` has, and answers the count of words; the findings then hold the new record. Its
-// entries are just those of the manuscript, in order: only the pages come from the pass. The layout is rewound before and after,
+// Makes a pass from the record that the task's telling has, and answers the count of words; the findings then hold the new record.
+// Its entries are just those of the manuscript, in order: only the pages come from the pass. The layout is rewound before and after,
 // also where a word is refused; then the findings are free.
-pub fn make_pass<L: Layout>(
-    manuscript: Manuscript,
-    telling: Telling,
-    pass: u8,
-    numerals: &mut NumeralBuffer,
-    layout: &mut L,
-    findings: &mut Findings,
-) -> Result<usize, Fault>
-    ensures made { Makes (next L.Layout.meaning (L.Layout.meaning.settings layout.old) telling.entry.style manuscript.entry.text.now pass (lists_of telling.entry.old.now)) result (kept_of findings.new).lists }
-    ensures apart { ApartMade result (kept_of findings.new).lists }
-    ensures entries { EntriesMade manuscript.entry.text.now result (kept_of findings.new).lists }
+pub fn make_pass<L: Layout>(task: Task, layout: &mut L, spare: &mut Spare) -> Result<usize, Fault>
+    ensures made { Makes (next L.Layout.meaning (L.Layout.meaning.settings layout.old) task.entry.telling.style task.entry.manuscript.text.now task.entry.pass (lists_of task.entry.telling.old.now)) result (kept_of spare.new.findings).lists }
+    ensures apart { ApartMade result (kept_of spare.new.findings).lists }
+    ensures entries { EntriesMade task.entry.manuscript.text.now result (kept_of spare.new.findings).lists }
     ensures rewound { Rewound L.Layout.meaning layout.old layout.new }
 {
-    let walked = find_words(manuscript, telling, pass, numerals, layout, findings);
+    let walked = find_words(task, layout, spare);
     layout.rewind();
-    match walked {
-        Ok(()) => Ok(findings.words()),
-        Err(fault) => Err(fault),
-    }
+    walked?;
+    Ok(spare.findings.words())
 }

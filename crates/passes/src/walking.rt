@@ -7,35 +7,27 @@ ghost use Rattle.setting.specs.Typesetting.{plays};
 ghost use Rattle.typeset.specs.Items.{items};
 ghost use Rattle.typeset.specs.Script.{script};
 
+use crate::task::{Spare, Task};
 use faults::Fault;
-use findings::Findings;
 use layout::Layout;
-use manuscript::Manuscript;
 use setting::Typesetter;
-use typeset::{NumeralBuffer, Telling, walk};
+use typeset::walk;
 
 // Walks the manuscript from the opening place, with nothing found before.
-pub fn walk_through<L: Layout>(
-    manuscript: Manuscript,
-    telling: Telling,
-    pass: u8,
-    numerals: &mut NumeralBuffer,
-    layout: &mut L,
-    findings: &mut Findings,
-) -> Result<(), Fault>
-    ensures ends { ended (record { place = L.Layout.meaning.place layout.new; kept = kept_of findings.new }) result ≡ play (plays L.Layout.meaning finding (L.Layout.meaning.settings layout.old) tt pass) (record { place = L.Layout.meaning.opening (L.Layout.meaning.settings layout.old); kept = nothing }) (script telling.entry.style (lists_of telling.entry.old.now) (items manuscript.entry.text.now)) }
+pub fn walk_through<L: Layout>(task: Task, layout: &mut L, spare: &mut Spare) -> Result<(), Fault>
+    ensures ends { ended (record { place = L.Layout.meaning.place layout.new; kept = kept_of spare.new.findings }) result ≡ play (plays L.Layout.meaning finding (L.Layout.meaning.settings layout.old) tt task.entry.pass) (record { place = L.Layout.meaning.opening (L.Layout.meaning.settings layout.old); kept = nothing }) (script task.entry.telling.style (lists_of task.entry.telling.old.now) (items task.entry.manuscript.text.now)) }
     ensures settings { L.Layout.meaning.settings layout.new ≡ L.Layout.meaning.settings layout.old }
 {
     layout.rewind();
-    findings.clear();
+    spare.findings.clear();
     walk(
-        manuscript,
-        telling,
-        numerals,
+        task.manuscript,
+        task.telling,
+        &mut spare.numerals,
         &mut Typesetter {
             layout,
-            keeper: findings,
-            pass,
+            keeper: &mut spare.findings,
+            pass: task.pass,
         },
     )
 }

@@ -1,31 +1,24 @@
 -- What setting words in a layout, with a keeper, comes to.
---   cause_of_lem     the cause of a fault that a layout's refusal makes
---   refusal_fault    that fault, with where the word comes from and the pass
+--   refusal_fault    the fault that a layout's refusal makes, with where the word comes from and the pass
 --   Setup            how far a layout and a keeper have come
 --   heard            a word after the layout's outcome
 --   plays            an act
 --   typesetting      the meaning of the compositor
-use Rattle.std.specs.Prelude.{◌∷◌, ℕ}
+use Rattle.std.specs.Prelude.{◌∷◌, ℕ, Some}
 use Rattle.compose.specs.Acts.{Act, set_word, end_of_paragraph, end_of_page}
 use Rattle.compose.specs.Playing.{Play, Playing, played}
 use Rattle.compose.specs.Playing as playing
 use Rattle.compose.specs.declared.acts.Source.{Source}
-use Rattle.faults.specs.declared.cause.Cause.{Cause}
-use Rattle.faults.specs.declared.cause.Cause.TheVariants as causes
 use Rattle.faults.specs.declared.fault.Fault.{Fault}
 use Rattle.layout.specs.Meaning.{Meaning, Outcome, refused, placed}
 use Rattle.layout.specs.Spots.{page_of}
+use Rattle.layout.specs.Refusals.{cause_of}
 use Rattle.layout.specs.declared.refusal.Refusal.{Refusal}
-use Rattle.layout.specs.declared.refusal.Refusal.TheVariants.{WordTooWide, PagesUsedUp}
 use Rattle.setting.specs.Keeping.{Keeping}
 use Rattle.setting.specs.declared.typesetter.Typesetter.{Typesetter}
 
-abbrev pub cause_of_lem : Refusal → Cause
-cause_of_lem WordTooWide = causes.WordTooWide
-cause_of_lem PagesUsedUp = causes.PagesUsedUp
-
 abbrev pub refusal_fault : ℕ → Source → Refusal → Fault
-refusal_fault pass s e = record { cause = cause_of_lem e; line = s.line; name = s.name; pass = pass }
+refusal_fault pass s e = record { cause = cause_of e; line = Some s.line; name = s.name; pass = pass }
 
 pub record Setup (Place Kept : Type 0) : Type 0 where
   pub place : Place

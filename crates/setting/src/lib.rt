@@ -3,7 +3,7 @@
 
 pub use keeper::Keeper;
 pub use tracing::keepers_hear;
-pub use typesetter::{Typesetter, cause_of};
+pub use typesetter::Typesetter;
 
 mod keeper;
 mod tracing;

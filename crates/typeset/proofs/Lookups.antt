@@ -1,14 +1,13 @@
 -- Texts of words: a looked-up entry, and how long a number's text is.
-use Rattle.std.proofs.Common.{◌≡◌, ℕ, zero, suc, ◌<◌, ◌≤◌, true, List, [], ◌∷◌, map, length, get_or, take, Some, sym, ap, ◌∙◌, zero-add, arith, length-append, take_at}
+use Rattle.std.proofs.Common.{◌≡◌, ℕ, zero, suc, ◌<◌, ◌≤◌, true, List, [], ◌∷◌, map, length, get_or, take, is_ok, Some, Ok, sym, ap, ◌∙◌, zero-add, arith, length-append, take_at}
 use Rattle.numerals.specs.Heading.{number_text}
 use Rattle.numerals.specs.Sound.{number_ok}
 use Rattle.numerals.specs.declared.counters.Counters.{Counters}
 use Rattle.numerals.proofs.Lengths.{decimal_short, level_bound}
 use Rattle.names.specs.Name.{naming}
-use Rattle.names.specs.declared.Naming.TheVariants.{Right}
-use Rattle.record.specs.Right.{is_right, name_ok}
+use Rattle.record.specs.Right.{name_ok}
 use Rattle.record.specs.Meaning.{label_of}
-use Rattle.record.specs.declared.entry.LabelEntry.{LabelEntry}
+use Rattle.record.specs.declared.entry.label.LabelEntry.{LabelEntry}
 use Rattle.typeset.specs.Shown.{position_at}
 use Rattle.typeset.specs.Texts.{PutsText}
 
@@ -29,9 +28,9 @@ pub number_short : (level : ℕ) (cs : Counters) → number_ok level cs ≡ true
 number_short level cs h = number_sized level cs (level_bound level cs h)
 
 -- what the rule of a name has right is a name
-pub right_name : (bs : List ℕ) → naming bs ≡ Right → name_ok bs ≡ true
+pub right_name : (bs : List ℕ) → naming bs ≡ Ok tt → name_ok bs ≡ true
 unfolding name_ok
-right_name bs e = ap is_right e
+right_name bs e = ap is_ok e
 
 -- a text that was written at the front
 pub front_text : (out text : List ℕ) {r : ℕ} {after : List ℕ} → PutsText out 0 text r after → take r after ≡ text

@@ -1,5 +1,5 @@
 -- Acts played one list after the other.
-use Rattle.std.proofs.Common.{◌≡◌, List, [], ◌∷◌, ◌++◌, Ok, Err, Result, sym, refl, ap, ◌∙◌}
+use Rattle.std.proofs.Common.{◌≡◌, List, [], ◌∷◌, ◌++◌, Ok, Err, Result, sym, refl, ap, ◌∙◌, subst}
 use Rattle.compose.specs.Acts.{Act}
 use Rattle.compose.specs.Playing.{Play, Playing, Plays, played, refused, and_then, play, ended}
 use Rattle.faults.specs.declared.fault.Fault.{Fault}
@@ -54,6 +54,26 @@ module _ {Self : Type 0} (p : Playing Self) {x y z : Self} where
     fixed = k.fixed ∙ h.fixed;
     names = k.names ∙ h.names;
   }
+
+  -- acts after others, where they hang on what no act changes
+  pub plays_more : (xs : List Act) (ys : p.Fixed → List Act) {r : Result (Unit {0}) Fault} → Plays p x xs y (Ok tt) → Plays p y (ys (p.fixed y)) z r → Plays p x (xs ++ ys (p.fixed x)) z r
+  plays_more xs ys {r} h k = plays_then xs (ys (p.fixed x)) h (subst (λ (v : p.Fixed). Plays p y (ys v) z r) h.fixed k)
+
+-- the same acts, written in another way
+pub plays_same : {Self : Type 0} (p : Playing Self) (x y : Self) {xs ys : List Act} {r : Result (Unit {0}) Fault} → xs ≡ ys → Plays p x xs y r → Plays p x ys y r
+plays_same p x y {r = r} e k = subst (λ (v : List Act). Plays p x v y r) e k
+
+-- acts that hang on what no act changes, seen from where playing began
+pub seen_from : {Self : Type 0} (p : Playing Self) (x y : Self) {z : Self} {r : Result (Unit {0}) Fault} (acts : p.Fixed → List Act) → p.fixed y ≡ p.fixed x → Plays p y (acts (p.fixed y)) z r → Plays p y (acts (p.fixed x)) z r
+seen_from p x y {z} {r} acts e k = subst (λ (v : p.Fixed). Plays p y (acts v) z r) e k
+
+-- a part was refused, so what comes after it is not played
+pub refused_in : {Self : Type 0} (p : Playing Self) {x y : Self} (xs ys : List Act) {f : Fault} → Plays p x xs y (Err f) → Plays p x (xs ++ ys) y (Err f)
+refused_in p {x} xs ys k = record {
+  ends = ap (and_then (λ t. play (p.plays (p.fixed x)) t ys)) k.ends ∙ sym (play_append (p.plays (p.fixed x)) xs ys (p.state x));
+  fixed = k.fixed;
+  names = k.names;
+}
 
 -- nothing is left
 pub all_played : {Self : Type 0} (p : Playing Self) {x y : Self} {all rest : List Act} → ToPlay p x all y rest → rest ≡ [] → Plays p x all y (Ok tt)

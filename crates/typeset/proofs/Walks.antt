@@ -7,7 +7,7 @@ use Rattle.manuscript.specs.Rules.{line_kept, lines_kept, headings}
 use Rattle.numerals.specs.declared.style.NumeralStyle.{NumeralStyle}
 use Rattle.reader.specs.Lines.{SourceLine}
 use Rattle.record.specs.Meaning.{position_of}
-use Rattle.record.specs.declared.entry.ContentsEntry.{ContentsEntry}
+use Rattle.record.specs.declared.entry.contents.ContentsEntry.{ContentsEntry}
 use Rattle.typeset.specs.Items.{ItemWord, line_item, items_of}
 use Rattle.typeset.specs.Numbering.{Room, number_after_lem}
 use Rattle.typeset.specs.Script.{entry_acts, contents_acts, item_acts, told}

@@ -12,7 +12,6 @@
 use Rattle.std.specs.Prelude.{◌≡◌, ℕ, Bool, true, false, cond, List, [], ◌∷◌, Some, None, Ok, Err, codes, Option, refl}
 use Rattle.std.specs.Str.{bytes_eq}
 use Rattle.compose.specs.declared.acts.Source.{Source}
-use Rattle.faults.specs.Faults.{no_name}
 use Rattle.faults.specs.declared.fault.Span.{Span}
 use Rattle.manuscript.specs.Standing.{name_span}
 use Rattle.marks.specs.Parts.{MarkedWord, Parts, parts}
@@ -29,15 +28,15 @@ pub record ItemWord : Type 0 where
   pub source : Source
 
 abbrev pub at_line_lem : ℕ → Source
-at_line_lem n = record { line = n; name = no_name }
+at_line_lem n = record { line = n; name = None }
 
 abbrev pub mark_in : Parts → Option MarkedWord
 mark_in (Ok m) = m
 mark_in (Err e) = None
 
-abbrev pub span_in : SourceLine → SourceWord → Option MarkedWord → Span
-span_in l w None = no_name
-span_in l w (Some m) = name_span l w m
+abbrev pub span_in : SourceLine → SourceWord → Option MarkedWord → Option Span
+span_in l w None = None
+span_in l w (Some m) = Some (name_span l w m)
 
 abbrev pub word_with : SourceLine → SourceWord → Option MarkedWord → ItemWord
 word_with l w m = record { bytes = w.bytes; mark = m; source = record { line = l.number; name = span_in l w m } }
@@ -94,5 +93,5 @@ titles (i ∷ is) = with_title i (titles is)
 abbrev bare : ℕ → List ℕ → ItemWord
 bare n w = record { bytes = w; mark = None; source = at_line_lem n }
 
-book : items (codes "!contents\n% x\n# Pump\n!page\nsee {p:v}.\n\n") ≡ contents 1 ∷ passed_over ∷ heading 3 1 (bare 3 (codes "Pump") ∷ []) ∷ page_break ∷ text (bare 5 (codes "see") ∷ record { bytes = codes "{p:v}."; mark = Some (record { mark = Page; prefix = []; name = codes "v"; suffix = codes "." }); source = record { line = 5; name = record { offset = 34; length = 1 } } } ∷ []) ∷ text [] ∷ []
+book : items (codes "!contents\n% x\n# Pump\n!page\nsee {p:v}.\n\n") ≡ contents 1 ∷ passed_over ∷ heading 3 1 (bare 3 (codes "Pump") ∷ []) ∷ page_break ∷ text (bare 5 (codes "see") ∷ record { bytes = codes "{p:v}."; mark = Some (record { mark = Page; prefix = []; name = codes "v"; suffix = codes "." }); source = record { line = 5; name = Some (record { offset = 34; length = 1 }) } } ∷ []) ∷ text [] ∷ []
 book = refl

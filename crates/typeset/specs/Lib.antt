@@ -5,3 +5,4 @@ pub mod Script
 pub mod Texts
 pub mod Manners
 pub mod Walking
+pub mod Tellers

@@ -84,5 +84,5 @@ told sh ts k (i ∷ is) = item_acts sh ts (number_after_lem k i) i ++ told sh ts
 abbrev pub script : NumeralStyle → Lists → List Item → List Act
 script s old is = told (shown s old) (titles is) before_any is
 
-unknown_yet : script Roman no_entries (items (codes "{p:t}.")) ≡ set_word (codes "??.") (page_reference (codes "t") 0 1) (record { line = 1; name = record { offset = 3; length = 1 } }) ∷ []
+unknown_yet : script Roman no_entries (items (codes "{p:t}.")) ≡ set_word (codes "??.") (page_reference (codes "t") 0 1) (record { line = 1; name = Some (record { offset = 3; length = 1 }) }) ∷ []
 unknown_yet = refl

@@ -10,7 +10,7 @@ use Rattle.reader.specs.Reading.{left, line_of}
 use Rattle.reader.specs.declared.place.Line.{Line}
 use Rattle.reader.specs.declared.place.Place.{Place}
 use Rattle.record.specs.Meaning.{position_of}
-use Rattle.record.specs.declared.entry.ContentsEntry.{ContentsEntry}
+use Rattle.record.specs.declared.entry.contents.ContentsEntry.{ContentsEntry}
 use Rattle.typeset.specs.Items.{ItemWord, title_words, items_of, titles}
 use Rattle.typeset.specs.Shown.{ContentsLine, contents_line}
 

@@ -7,11 +7,10 @@
 pub use telling::{NumeralBuffer, Telling};
 pub use walking::walk;
 
-mod contents;
-mod headings;
 mod manner;
+mod numbering;
 mod roles;
+mod teller;
 mod telling;
 mod texts;
 mod walking;
-mod words;

@@ -9,14 +9,12 @@ ghost use Rattle.typeset.specs.Script.{part_in, source_in};
 
 use crate::manner::Manner;
 use compose::{Role, Source};
-use faults::Span;
 use marks::{Mark, Marked};
 use record::Name;
 
 // The role of a word with a mark. A copy in the contents is no more than that, so it moves no label.
 pub fn marked_role(manner: Manner, marked: Marked, name: Name) -> Role
-    requires suffix_len_bound { length marked.prefix.now + length marked.suffix.now ≤ 60 }
-    requires name_value { name_bytes name ≡ marked.name.now }
+    requires { name_bytes name ≡ marked.name.now }
     ensures { part_of result ≡ part_in (manner_of manner) (Some (value_of marked.entry)) }
 {
     let number = match manner {
@@ -42,17 +40,21 @@ pub fn plain_role(manner: Manner) -> Role
     }
 }
 
+// The name in a mark.
+pub fn mark_name(marked: Marked) -> Name
+    ensures { name_bytes result ≡ marked.entry.name.now }
+{
+    match Name::new(marked.name) {
+        Some(name) => name,
+        None => unreachable(),
+    }
+}
+
 // Where a word without a name comes from.
 pub fn at_line(line: usize) -> Source
     ensures { result ≡ at_line_lem line }
 {
-    Source {
-        line,
-        name: Span {
-            offset: 0,
-            length: 0,
-        },
-    }
+    Source { line, name: None }
 }
 
 // Where a fault says that a word comes from: a copy in the contents, from the line that asks for them.

@@ -26,17 +26,17 @@ entries_told t v h (Err f) x e = tt
 
 pub returns : goal.returns
 returns g c =
-    let t = c.args.manuscript.text.now in
-    let kept = accepted_kept t c.args.manuscript.accepted in
-    let style = c.args.telling.style in
-    let old = lists_of c.args.telling.old.now in
+    let t = c.args.task.manuscript.text.now in
+    let kept = accepted_kept t c.args.task.manuscript.accepted in
+    let style = c.args.task.telling.style in
+    let old = lists_of c.args.task.telling.old.now in
     let laws = c.findings_hold.ensures in
     let settings = g.L.Layout.meaning.settings c.args.layout.now in
     let acts = script style old (items t) in
     let is = laws.found _ _ _ (scripts_fit style old t kept) _ _ c.walk_through.ensures.ends in
     record {
       found = is;
-      apart = apart_told _ (λ ls n e. laws.apart settings c.args.pass acts ls n (scripts_apart style old t kept) e) c.walk_through.result _ is;
-      entries = entries_told t _ (λ ls n e. next_entries g.L.Layout.meaning settings style t c.args.pass old ls n e) c.walk_through.result _ is;
+      apart = apart_told _ (λ ls n e. laws.apart settings c.args.task.pass acts ls n (scripts_apart style old t kept) e) c.walk_through.result _ is;
+      entries = entries_told t _ (λ ls n e. next_entries g.L.Layout.meaning settings style t c.args.task.pass old ls n e) c.walk_through.result _ is;
       settings = c.walk_through.ensures.settings;
     }

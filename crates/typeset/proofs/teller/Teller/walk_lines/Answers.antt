@@ -1,0 +1,80 @@
+use Rattle.std.proofs.Common.{◌≡◌, ◌≤◌, List, ◌∷◌, sym, refl, ap, ◌∙◌, subst, arith}
+use Rattle.std.proofs.lemmas.Result.{err_from_is_err_and}
+use Rattle.compose.specs.Acts.{number_of}
+use Rattle.manuscript.specs.Rules.{lines_kept, headings}
+use Rattle.numerals.specs.declared.counters.Counters.{Counters}
+use Rattle.reader.specs.Left.{lines_left}
+use Rattle.reader.specs.Lines.{SourceLine, lines}
+use Rattle.reader.specs.Reading.{left, line_of}
+use Rattle.typeset.specs.Items.{items_of, items, titles, line_item}
+use Rattle.typeset.specs.Numbering.{before_any, number_after_lem}
+use Rattle.typeset.specs.Script.{told, item_acts}
+use Rattle.typeset.specs.Tellers.{telling_to}
+use Rattle.typeset.specs.Texts.{telling_shown}
+use Rattle.typeset.proofs.Plays.{none_played, played_on, refused_there, all_played, seen_from}
+use Rattle.typeset.proofs.Walks.{line_first, none_left, first_kept, room_left}
+use Rattle.typeset.proofs.teller.Teller.walk_lines.Goals as goal
+
+pub loop-line-init : goal.loop-line-init
+loop-line-init g c =
+    let me = c.args.self.now in
+    let ts = titles (items me.manuscript.text.now) in
+    let sh = telling_shown me.telling in
+    let n = c.before_any-number.ensures in
+    let k : before_any ≡ number_of c.before_any-number.result = λ i. record { level = sym n.0 i; counters = sym n.1 i } in
+    let kept = c.kept_text-text.ensures in
+    let all : lines_left c.into_iter-line-iterator.result ≡ lines c.kept_text-text.result.now = ap lines_left c.into_iter-line-iterator.ensures.into_iter_gives ∙ (λ i. left (c.new-line-items.ensures.text i) (c.new-line-items.ensures.place i)) in
+    let book = sym (all ∙ ap lines kept.value) in
+    let few = subst (λ (ls : List SourceLine). headings ls ≤ 128) (sym all) kept.kept.few_headings in
+    let z1 = ap (λ (cs : Counters). cs.first) n.1 in
+    let z2 = ap (λ (cs : Counters). cs.second) n.1 in
+    let z3 = ap (λ (cs : Counters). cs.third) n.1 in (
+      none_played (telling_to g.C.Compositor.playing) me (λ i. told sh ts (k i) (items_of (book i))),
+      ap lines_kept all ∙ kept.kept.formed,
+      (omega (arith, few, z1), omega (arith, few, z2), omega (arith, few, z3)),
+    )
+
+pub walk_line-requires-clause-line_value : goal.walk_line-requires-clause-line_value
+walk_line-requires-clause-line_value g c =
+    let steps = c.in-Some.ensures.steps in
+    (first_kept steps.1.0 c.loop-line.invariant.1).0
+
+pub loop-line-preserved : goal.loop-line-preserved
+loop-line-preserved g c =
+    let p = telling_to g.C.Compositor.playing in
+    let me = c.args.self.now in
+    let ts = titles (items me.manuscript.text.now) in
+    let sh = telling_shown me.telling in
+    let inv = c.loop-line.invariant in
+    let l = line_of c.in-Some.line in
+    let k = number_of c.loop-line.number in
+    let k' = number_of c.in_ok-number.number in
+    let walked = c.in_ok-number.ensures in
+    let steps = c.in-Some.ensures.steps in
+    let first : lines_left c.loop-line.line-iterator ≡ l ∷ lines_left c.next.new.self = steps.1.0 ∙ ap (λ r. l ∷ left r.now c.next.new.self.place) (sym steps.0) in
+    let said = seen_from p me c.loop-line.self (λ f. item_acts (telling_shown f.1) (titles (items f.0.text.now)) (number_after_lem k (line_item l)) (line_item l)) inv.0.fixed walked.plays in (
+      played_on p _ _ inv.0 (line_first sh ts k k' l first walked.number) said,
+      (first_kept first inv.1).1,
+      room_left l k k' first walked.number inv.2,
+    )
+
+pub returns-in_err-number : goal.returns-in_err-number
+returns-in_err-number g c =
+    let p = telling_to g.C.Compositor.playing in
+    let me = c.args.self.now in
+    let ts = titles (items me.manuscript.text.now) in
+    let sh = telling_shown me.telling in
+    let inv = c.loop-line.invariant in
+    let l = line_of c.in-Some.line in
+    let k = number_of c.loop-line.number in
+    let steps = c.in-Some.ensures.steps in
+    let first : lines_left c.loop-line.line-iterator ≡ l ∷ lines_left c.next.new.self = steps.1.0 ∙ ap (λ r. l ∷ left r.now c.next.new.self.place) (sym steps.0) in
+    let said = seen_from p me c.loop-line.self (λ f. item_acts (telling_shown f.1) (titles (items f.0.text.now)) (number_after_lem k (line_item l)) (line_item l)) inv.0.fixed c.in_err-number.ensures.plays in
+    let q = err_from_is_err_and c.from_residual.result c.from_residual.ensures.1 in
+    rw (q.1, q.2) (refused_there p _ _ inv.0 (line_first sh ts k _ l first refl) said)
+
+pub returns : goal.returns
+returns g c =
+    let me = c.args.self.now in
+    let ts = titles (items me.manuscript.text.now) in
+    all_played (telling_to g.C.Compositor.playing) c.loop-line.invariant.0 (none_left (telling_shown me.telling) ts (number_of c.loop-line.number) c.in-None.ensures.steps.1.0)

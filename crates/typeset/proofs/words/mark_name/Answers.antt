@@ -1,7 +1,0 @@
-use Rattle.std.proofs.Common.{sym, ◌∙◌}
-use Rattle.std.proofs.lemmas.Bool.{true≢false}
-use Rattle.typeset.proofs.Lookups.{right_name}
-use Rattle.typeset.proofs.words.mark_name.Goals as goal
-
-pub unreachable-requires : goal.unreachable-requires
-unreachable-requires c = true≢false (sym (right_name c.args.name.now c.requires) ∙ c.in-None.ensures)
