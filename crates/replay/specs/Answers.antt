@@ -3,6 +3,7 @@
 --   counts_line_lem    the counts of a manuscript
 --   check_line_lem     the answer of a check
 use Rattle.std.specs.Prelude.{ℕ, List, ◌++◌, Ok, Err, codes, decimal, Result}
+use Rattle.faults.specs.Faults.{line_number, name_offset, name_length}
 use Rattle.faults.specs.Numbers.{number_of, layer_of, layer_number}
 use Rattle.faults.specs.declared.fault.Fault.{Fault}
 use Rattle.manuscript.specs.Checking.{checked}
@@ -10,7 +11,7 @@ use Rattle.manuscript.specs.declared.counts.Counts.{Counts}
 
 abbrev pub fault_line_lem : Fault → List ℕ
 fault_line_lem f =
-    codes "fault " ++ (decimal (number_of f.cause) ++ (codes " " ++ (decimal (layer_number (layer_of f.cause)) ++ (codes " " ++ (decimal f.line ++ (codes " " ++ (decimal f.name.offset ++ (codes " " ++ (decimal f.name.length ++ (codes " " ++ decimal f.pass))))))))))
+    codes "fault " ++ (decimal (number_of f.cause) ++ (codes " " ++ (decimal (layer_number (layer_of f.cause)) ++ (codes " " ++ (decimal (line_number f) ++ (codes " " ++ (decimal (name_offset f) ++ (codes " " ++ (decimal (name_length f) ++ (codes " " ++ decimal f.pass))))))))))
 
 abbrev pub counts_line_lem : Counts → List ℕ
 counts_line_lem c =

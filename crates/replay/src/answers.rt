@@ -2,13 +2,21 @@
 ghost use Rattle.std.specs.Prelude.{◌≡◌, IfOk, string_bytes};
 ghost use Rattle.replay.specs.Answers.{fault_line_lem, counts_line_lem, check_line_lem};
 
-use crate::hex::decode;
+use crate::digits::decode;
+use crate::named::on_layout;
 use crate::records::{load_line, numeral_line};
 use crate::sessions::session_line;
-use crate::steps::layout_line;
-use faults::Fault;
+use crate::steps::Steps;
+use crate::unanswered::Unanswered;
+use faults::{Fault, Span};
 use manuscript::{Counts, check};
 use std::alloc::{AllocError, Global};
+
+// What answers show where there is no name.
+const NO_NAME: Span = Span {
+    offset: 0,
+    length: 0,
+};
 
 // Number, layer, line, the name's offset and length, and pass.
 pub fn fault_line(heap: Global, fault: Fault) -> Result<String, AllocError>
@@ -16,9 +24,8 @@ pub fn fault_line(heap: Global, fault: Fault) -> Result<String, AllocError>
 {
     let number = fault.cause.number();
     let layer = fault.cause.layer().number();
-    let line = fault.line;
-    let offset = fault.name.offset;
-    let length = fault.name.length;
+    let line = fault.line.unwrap_or(0);
+    let Span { offset, length } = fault.name.unwrap_or(NO_NAME);
     let pass = fault.pass;
     format!(in heap; "fault {number} {layer} {line} {offset} {length} {pass}")
 }
@@ -26,9 +33,11 @@ pub fn fault_line(heap: Global, fault: Fault) -> Result<String, AllocError>
 fn counts_line(heap: Global, counts: Counts) -> Result<String, AllocError>
     ensures { IfOk result (λ s. string_bytes s ≡ counts_line_lem counts) }
 {
-    let lines = counts.lines;
-    let labels = counts.labels;
-    let headings = counts.headings;
+    let Counts {
+        lines,
+        labels,
+        headings,
+    } = counts;
     format!(in heap; "counts {lines} {labels} {headings}")
 }
 
@@ -41,38 +50,43 @@ fn check_line(heap: Global, text: &[u8]) -> Result<String, AllocError>
     }
 }
 
-// The answer to a request for a check of bytes in hexadecimal.
-fn answer_check(heap: Global, digits: &str) -> Result<Option<String>, AllocError> {
-    let Some(text) = decode(heap, digits.as_bytes())? else {
-        return Ok(None);
-    };
-    Ok(Some(check_line(heap, &text)?))
-}
-
-// The answer to a request for the loading of record lines in hexadecimal.
-fn answer_load(heap: Global, digits: &str) -> Result<Option<String>, AllocError> {
-    let Some(bytes) = decode(heap, digits.as_bytes())? else {
-        return Ok(None);
-    };
-    Ok(Some(load_line(heap, &bytes)?))
-}
-
-// The answer to one request line: a command, an argument, and what follows them.
-pub fn answer(heap: Global, request: &str) -> Result<String, AllocError> {
-    let words: Vec<&str> = request.split(' ').collect(heap)?;
-    if words.len() < 2 {
-        return String::from_str(heap, "unreadable");
+// The answers of a request, one after the other; the library joins no strings.
+pub(crate) fn joined(
+    heap: Global,
+    answers: &[String],
+    separator: &str,
+) -> Result<String, AllocError> {
+    let mut line = String::new(heap);
+    for (i, answer) in answers.iter().enumerate() {
+        if i > 0 {
+            line.push_str(separator)?;
+        }
+        line.push_str(answer.as_str())?;
     }
-    let reply = match words[0] {
-        "check" => answer_check(heap, words[1])?,
-        "load" => answer_load(heap, words[1])?,
-        "numeral" if words.len() == 3 => numeral_line(heap, words[1], words[2])?,
-        "layout" => layout_line(heap, words[1], &words[2..])?,
-        "session" => session_line(heap, &words[1..])?,
-        _ => None,
-    };
-    match reply {
-        Some(line) => Ok(line),
-        None => String::from_str(heap, "unreadable"),
+    Ok(line)
+}
+
+// The answer to a request that is carried out: a command, an argument, and what follows them.
+fn reply(heap: Global, request: &str) -> Result<String, Unanswered> {
+    let words: Vec<&str> = request.split(' ').collect(heap)?;
+    let words: &[&str] = &words;
+    match words {
+        ["check", text, ..] => Ok(check_line(heap, &decode(heap, *text)?)?),
+        ["load", lines, ..] => load_line(heap, &decode(heap, *lines)?),
+        ["numeral", code, page] => numeral_line(heap, *code, *page),
+        ["layout", layout, steps @ ..] => on_layout(heap, *layout, Steps(steps)),
+        ["session", words @ ..] => session_line(heap, words),
+        _ => Err(Unanswered::Unreadable),
+    }
+}
+
+// The answer to one request line.
+pub fn answer(heap: Global, request: &str) -> Result<String, AllocError> {
+    match reply(heap, request) {
+        Ok(line) => Ok(line),
+        Err(Unanswered::Unreadable) => String::from_str(heap, "unreadable"),
+        Err(Unanswered::Refused(fault)) => fault_line(heap, fault),
+        Err(Unanswered::NoMemoryToLoad) => String::from_str(heap, "no memory"),
+        Err(Unanswered::Memory(error)) => Err(error),
     }
 }

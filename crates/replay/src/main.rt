@@ -5,10 +5,12 @@ use answers::answer;
 use std::io::{BufRead, BufReader};
 
 mod answers;
-mod hex;
+mod digits;
+mod named;
 mod records;
 mod sessions;
 mod steps;
+mod unanswered;
 
 fn run(rt: &HostRuntime) -> anyhow::Result<()> {
     let heap = rt.alloc();

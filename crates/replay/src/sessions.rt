@@ -1,16 +1,44 @@
 // Requests that carry out the calls of a session.
-use crate::answers::fault_line;
-use crate::hex::{decode, encode};
-use crate::steps::{Named, named_layout};
+use crate::answers::{fault_line, joined};
+use crate::digits::{decode, encode};
+use crate::named::{Job, on_layout};
+use crate::unanswered::Unanswered;
 use faults::Fault;
-use layout::Layout;
-use layouts::{FixedForm, LineFiller};
+use layout::{Layout, Printing};
 use manuscript::{Manuscript, bind};
 use record::Record;
-use recordlines::{LoadError, load};
-use session::{Locked, Passing, Workspace, open};
+use recordlines::load;
+use session::{Locked, Passed, Passing, Workspace, open};
 use std::alloc::{AllocError, Global};
+use std::str::FromStr;
 use verdict::Verdict;
+
+// A call that a request asks for.
+#[derive(Clone, Copy)]
+enum Call {
+    Pass,
+    Verdict,
+    Lock,
+    Save(usize),
+    Print,
+}
+
+impl FromStr for Call {
+    type Err = Unanswered;
+
+    fn from_str(text: &str) -> Result<Call, Unanswered> {
+        match text {
+            "p" => Ok(Call::Pass),
+            "v" => Ok(Call::Verdict),
+            "l" => Ok(Call::Lock),
+            _ if text.starts_with("o:") => Ok(Call::Print),
+            _ => {
+                let length = text.strip_prefix("s:").ok_or(Unanswered::Unreadable)?;
+                Ok(Call::Save(length.parse()?))
+            }
+        }
+    }
+}
 
 // A session of either kind.
 #[derive(Drop)]
@@ -19,29 +47,30 @@ enum Session {
     Shut(Locked),
 }
 
-fn verdict_line(heap: Global, verdict: Verdict) -> Result<String, AllocError> {
-    let kind = verdict.kind.number();
-    let passes = verdict.passes;
-    let period = verdict.period;
-    let since = verdict.since;
-    format!(in heap; "verdict {kind} {passes} {period} {since}")
+impl Session {
+    fn verdict(&self) -> Verdict {
+        match self {
+            Session::Open(passing) => passing.verdict(),
+            Session::Shut(locked) => locked.verdict(),
+        }
+    }
+
+    fn save(&self, workspace: &Workspace, out: &mut [u8]) -> Result<usize, Fault> {
+        match self {
+            Session::Open(passing) => passing.save(workspace, out),
+            Session::Shut(locked) => locked.save(workspace, out),
+        }
+    }
 }
 
-fn pass_line<L: Layout>(
-    heap: Global,
-    passing: &mut Passing,
-    text: Manuscript,
-    layout: &mut L,
-    workspace: &mut Workspace,
-) -> Result<String, AllocError> {
-    match passing.pass(text, layout, workspace) {
-        Ok(passed) => {
-            let number = passed.number;
-            let words = passed.words;
-            format!(in heap; "pass {number} {words}")
-        }
-        Err(fault) => fault_line(heap, fault),
-    }
+fn verdict_line(heap: Global, verdict: Verdict) -> Result<String, AllocError> {
+    let kind = verdict.outcome().number();
+    format!(in heap;
+        "verdict {kind} {} {} {}",
+        verdict.passes(),
+        verdict.period(),
+        verdict.since()
+    )
 }
 
 // What was saved, with the whole buffer; or the fault, and whether a byte of the buffer changed.
@@ -57,205 +86,122 @@ fn saved_line(
         }
         Err(fault) => {
             let mut line = fault_line(heap, fault)?;
-            line.push_str(if all_untouched(buffer) {
-                " kept"
-            } else {
-                " changed"
-            })?;
+            let untouched = buffer.iter().all(|b| *b == b'U');
+            line.push_str(if untouched { " kept" } else { " changed" })?;
             Ok(line)
         }
     }
 }
 
-fn all_untouched(buffer: &[u8]) -> bool {
-    for b in buffer {
-        if *b != b'U' {
-            return false;
-        }
-    }
-    true
-}
-
-// The length that a request for saving names.
-fn save_length(call: &str) -> Option<usize> {
-    match call.strip_prefix("s:")?.parse::<usize>() {
-        Ok(length) => Some(length),
-        Err(_) => None,
-    }
-}
-
-fn lock_call(heap: Global, passing: Passing) -> Result<(Session, String), AllocError> {
+fn lock(heap: Global, passing: Passing) -> Result<(Session, String), AllocError> {
     match passing.lock() {
         Ok(locked) => Ok((Session::Shut(locked), String::from_str(heap, "locked")?)),
-        Err(refused) => {
-            let (fault, passing) = refused;
-            Ok((Session::Open(passing), fault_line(heap, fault)?))
+        Err((fault, passing)) => Ok((Session::Open(passing), fault_line(heap, fault)?)),
+    }
+}
+
+// What the calls of a session work on.
+#[derive(Drop)]
+struct Desk<'t, 'l, L> {
+    heap: Global,
+    text: Manuscript<'t>,
+    layout: &'l mut L,
+    workspace: Workspace,
+}
+
+impl<L: Layout> Desk<'_, '_, L> {
+    fn pass(&mut self, passing: &mut Passing) -> Result<String, AllocError> {
+        match passing.pass(self.text, self.layout, &mut self.workspace) {
+            Ok(Passed { number, words }) => format!(in self.heap; "pass {number} {words}"),
+            Err(fault) => fault_line(self.heap, fault),
+        }
+    }
+
+    fn save(&self, session: &Session, length: usize) -> Result<String, AllocError> {
+        let mut buffer = vec![in self.heap; b'U'; length]?;
+        let saved = session.save(&self.workspace, &mut buffer);
+        saved_line(self.heap, saved, &buffer)
+    }
+
+    // The answer to a call that leaves the session as it is.
+    fn tell(&self, session: &Session, call: Call) -> Result<String, Unanswered> {
+        match (session, call) {
+            (_, Call::Verdict) => Ok(verdict_line(self.heap, session.verdict())?),
+            (_, Call::Save(length)) => Ok(self.save(session, length)?),
+            (Session::Shut(_), Call::Print) => Err(Unanswered::Unreadable),
+            _ => Ok(String::from_str(self.heap, "absent")?),
+        }
+    }
+
+    // The answer to a call, and the session that it leaves.
+    fn answer(&mut self, session: Session, call: Call) -> Result<(Session, String), Unanswered> {
+        match (session, call) {
+            (Session::Open(mut passing), Call::Pass) => {
+                let line = self.pass(&mut passing)?;
+                Ok((Session::Open(passing), line))
+            }
+            (Session::Open(passing), Call::Lock) => Ok(lock(self.heap, passing)?),
+            (session, call) => {
+                let line = self.tell(&session, call)?;
+                Ok((session, line))
+            }
         }
     }
 }
 
-// A call on a passing session, and its answer; none where the call is unreadable.
-fn passing_call<L: Layout>(
-    heap: Global,
-    passing: Passing,
-    call: &str,
-    text: Manuscript,
-    layout: &mut L,
-    workspace: &mut Workspace,
-) -> Result<Option<(Session, String)>, AllocError> {
-    let mut passing = passing;
-    if call == "l" {
-        return Ok(Some(lock_call(heap, passing)?));
-    }
-    let line = match call {
-        _ if call.starts_with("o:") => String::from_str(heap, "absent")?,
-        "p" => pass_line(heap, &mut passing, text, layout, workspace)?,
-        "v" => verdict_line(heap, passing.verdict())?,
-        _ => {
-            let Some(length) = save_length(call) else {
-                return Ok(None);
-            };
-            let mut buffer = vec![in heap; b'U'; length]?;
-            let saved = passing.save(workspace, &mut buffer);
-            saved_line(heap, saved, &buffer)?
-        }
-    };
-    Ok(Some((Session::Open(passing), line)))
-}
-
-// A call on a locked session, which has neither Pass nor Lock.
-fn locked_call(
-    heap: Global,
-    locked: Locked,
-    call: &str,
-    workspace: &Workspace,
-) -> Result<Option<(Session, String)>, AllocError> {
-    let line = match call {
-        "p" | "l" => String::from_str(heap, "absent")?,
-        "v" => verdict_line(heap, locked.verdict())?,
-        _ => {
-            let Some(length) = save_length(call) else {
-                return Ok(None);
-            };
-            let mut buffer = vec![in heap; b'U'; length]?;
-            let saved = locked.save(workspace, &mut buffer);
-            saved_line(heap, saved, &buffer)?
-        }
-    };
-    Ok(Some((Session::Shut(locked), line)))
-}
-
-fn carry_out<L: Layout>(
-    heap: Global,
-    session: Session,
-    call: &str,
-    text: Manuscript,
-    layout: &mut L,
-    workspace: &mut Workspace,
-) -> Result<Option<(Session, String)>, AllocError> {
-    match session {
-        Session::Open(passing) => passing_call(heap, passing, call, text, layout, workspace),
-        Session::Shut(locked) => locked_call(heap, locked, call, workspace),
-    }
-}
-
-// The answers to all calls, separated by ` ; `.
-fn answer_calls<L: Layout>(
-    heap: Global,
-    passing: Passing,
-    calls: &[&str],
-    text: Manuscript,
-    layout: &mut L,
-    workspace: &mut Workspace,
-) -> Result<Option<String>, AllocError> {
-    let mut session = Session::Open(passing);
-    let mut line = String::new(heap);
-    for call in calls {
-        if !line.is_empty() {
-            line.push_str(" ; ")?;
-        }
-        let Some((next, reply)) = carry_out(heap, session, *call, text, layout, workspace)? else {
-            return Ok(None);
-        };
-        session = next;
-        line.push_str(reply.as_str())?;
-    }
-    Ok(Some(line))
-}
-
-// What a request for a session names besides its layout and its calls.
+// The session that a request asks for.
 #[derive(Clone, Copy)]
-pub struct Opening<'a> {
-    pub letter: u8,
-    pub limit: usize,
-    pub start: &'a [u8],
-    pub text: &'a [u8],
+struct Asked<'a> {
+    letter: u8,
+    limit: usize,
+    start: &'a [u8],
+    text: &'a [u8],
+    calls: &'a [&'a str],
+}
+
+impl Job for Asked<'_> {
+    // The answers to all calls.
+    fn run<P: Printing>(self, heap: Global, layout: &mut P) -> Result<String, Unanswered> {
+        let start = start_record(heap, self.start)?;
+        let mut workspace = Workspace::new(heap)?;
+        let mut session = Session::Open(open(self.letter, self.limit, &start, &mut workspace)?);
+        let mut desk = Desk {
+            heap,
+            text: bind(self.text),
+            layout,
+            workspace,
+        };
+        let mut answers = Vec::new(heap);
+        for call in self.calls {
+            let (next, line) = desk.answer(session, call.parse()?)?;
+            session = next;
+            answers.push(line)?;
+        }
+        Ok(joined(heap, &answers, " ; ")?)
+    }
 }
 
 // The starting record: the empty one, or the one that lines load as.
-fn start_record(heap: Global, lines: &[u8]) -> Result<Result<Record, LoadError>, AllocError> {
+fn start_record(heap: Global, lines: &[u8]) -> Result<Record, Unanswered> {
     if lines.is_empty() {
-        return Ok(Ok(Record::empty(heap)?));
+        return Ok(Record::empty(heap)?);
     }
-    Ok(load(heap, lines))
-}
-
-fn run_session<L: Layout>(
-    heap: Global,
-    opening: Opening,
-    calls: &[&str],
-    layout: &mut L,
-) -> Result<Option<String>, AllocError> {
-    let start = match start_record(heap, opening.start)? {
-        Ok(start) => start,
-        Err(LoadError::Refused(fault)) => return Ok(Some(fault_line(heap, fault)?)),
-        Err(LoadError::NoMemory) => return Ok(Some(String::from_str(heap, "no memory")?)),
-    };
-    let mut workspace = Workspace::new(heap)?;
-    match open(opening.letter, opening.limit, &start, &mut workspace) {
-        Ok(passing) => {
-            answer_calls(
-                heap,
-                passing,
-                calls,
-                bind(opening.text),
-                layout,
-                &mut workspace,
-            )
-        }
-        Err(fault) => Ok(Some(fault_line(heap, fault)?)),
-    }
+    Ok(load(heap, lines)?)
 }
 
 // `session LAYOUT CODE LIMIT START TEXT CALL...`: the words after `session`.
-pub fn session_line(heap: Global, words: &[&str]) -> Result<Option<String>, AllocError> {
+pub fn session_line(heap: Global, words: &[&str]) -> Result<String, Unanswered> {
     let [layout, code, limit, start, text, calls @ ..] = words else {
-        return Ok(None);
+        return Err(Unanswered::Unreadable);
     };
-    let (Ok(letter), Ok(limit)) = (code.parse::<u8>(), limit.parse::<usize>()) else {
-        return Ok(None);
-    };
-    let Some(start) = decode(heap, start.as_bytes())? else {
-        return Ok(None);
-    };
-    let Some(text) = decode(heap, text.as_bytes())? else {
-        return Ok(None);
-    };
-    let opening = Opening {
-        letter,
-        limit,
+    let start = decode(heap, *start)?;
+    let text = decode(heap, *text)?;
+    let asked = Asked {
+        letter: code.parse()?,
+        limit: limit.parse()?,
         start: &start,
         text: &text,
+        calls,
     };
-    match named_layout(heap, *layout)? {
-        Some(Named::Filler(width, height)) => match LineFiller::new(width, height) {
-            Ok(mut filler) => run_session(heap, opening, calls, &mut filler),
-            Err(fault) => Ok(Some(fault_line(heap, fault)?)),
-        },
-        Some(Named::Form(width, cells, rows)) => match FixedForm::new(width, cells, rows) {
-            Ok(mut form) => run_session(heap, opening, calls, &mut form),
-            Err(fault) => Ok(Some(fault_line(heap, fault)?)),
-        },
-        None => Ok(None),
-    }
+    on_layout(heap, *layout, asked)
 }

@@ -1,5 +1,5 @@
 -- Where runs lead: from their first record, and on when the next record is taken in.
-use Rattle.std.proofs.Common.{◌≡◌, ℕ, ◌+◌, ◌-◌, ◌*◌, Bool, true, false, cond, eqb, Some, None, Ok, Err, Option, Result, sym, refl, ap, ◌∙◌, subst}
+use Rattle.std.proofs.Common.{◌≡◌, ℕ, ◌+◌, ◌-◌, ◌*◌, Bool, true, false, cond, eqb, Some, Ok, Err, Option, Result, sym, refl, ap, ◌∙◌, subst}
 use Rattle.faults.specs.declared.fault.Fault.{Fault}
 use Rattle.findings.specs.Next.{Found, found, stopped, record_of}
 use Rattle.record.specs.Lists.{Lists}
@@ -11,15 +11,15 @@ use Rattle.session.specs.Desk.{Desk}
 use Rattle.session.specs.Taking.{Taken, LeadsTo, CountsOn}
 use Rattle.session.specs.Opening.{LeadsOff}
 use Rattle.session.specs.declared.passed.Passed.{Passed}
-use Rattle.session.specs.declared.sessions.Passing.{Passing}
+use Rattle.session.specs.declared.numbers.Numbers.{Numbers}
 use Rattle.session.specs.Passing.{barred, Refuses, PassBy, LeadsOn}
 
 pub leads_off_lem : LeadsOff
 leads_off_lem letter limit x d e (Err f) step = tt
 leads_off_lem letter limit x d e (Ok s) step =
     λ f.
-    let there : Reached f x s.progress x x = subst (λ (z : Progress). Reached f x z x x) (sym step.1.progress) begun in
-    subst (λ (z : Desk). Reached f x s.progress z.current z.anchor) (sym step.2) there
+    let there : Reached f x s.numbers.progress x x = subst (λ (z : Progress). Reached f x z x x) (sym step.1.progress) begun in
+    subst (λ (z : Desk). Reached f x s.numbers.progress z.current z.anchor) (sym step.2) there
 
 taken_leads : (f : Lists → Option Lists) (x new : Lists) (p q : Progress) (d e : Desk) → LeadsTo f x p d → takes p ≡ true → f d.current ≡ Some new → Taken new p d q e → LeadsTo f x q e
 taken_leads f x new p q d e run taking makes t =
@@ -29,15 +29,15 @@ taken_leads f x new p q d e run taking makes t =
     subst (λ (z : Lists). Reached f x q e.current z) (sym t.anchor) moved
 
 -- a pass that was refused leads nowhere else
-stays : (g : Fault) (s t : Passing) (d e : Desk) (r : Result Passed Fault) → Refuses g s d r t e → (f : Lists → Option Lists) (x : Lists) → LeadsTo f x s.progress d → LeadsTo f x t.progress e
+stays : (g : Fault) (s t : Numbers) (d e : Desk) (r : Result Passed Fault) → Refuses g s d r t e → (f : Lists → Option Lists) (x : Lists) → LeadsTo f x s.progress d → LeadsTo f x t.progress e
 stays g s t d e r refuses f x run =
-    let there : LeadsTo f x t.progress d = subst (λ (z : Passing). LeadsTo f x z.progress d) (sym refuses.session) run in
+    let there : LeadsTo f x t.progress d = subst (λ (z : Numbers). LeadsTo f x z.progress d) (sym refuses.session) run in
     subst (λ (z : Desk). LeadsTo f x t.progress z) (sym refuses.desk) there
 
-goes : (b : Option Fault) (made : Found) (s t : Passing) (d e : Desk) (r : Result Passed Fault) → PassBy b made s d r t e → (f : Lists → Option Lists) (x : Lists) → f d.current ≡ record_of made → LeadsTo f x s.progress d → LeadsTo f x t.progress e
-goes (Some g) made s t d e r step f x makes run = stays g s t d e r step f x run
-goes None (stopped g) s t d e r step f x makes run = stays g s t d e r step f x run
-goes None (found new n) s t d e r step f x makes run = taken_leads f x new s.progress t.progress d e run step.takes_it makes step.taken
+goes : (b : Result (Unit {0}) Fault) (made : Found) (s t : Numbers) (d e : Desk) (r : Result Passed Fault) → PassBy b made s d r t e → (f : Lists → Option Lists) (x : Lists) → f d.current ≡ record_of made → LeadsTo f x s.progress d → LeadsTo f x t.progress e
+goes (Err g) made s t d e r step f x makes run = stays g s t d e r step f x run
+goes (Ok u) (stopped g) s t d e r step f x makes run = stays g s t d e r step f x run
+goes (Ok u) (found new n) s t d e r step f x makes run = taken_leads f x new s.progress t.progress d e run step.takes_it makes step.taken
 
 pub leads_on_lem : LeadsOn
 leads_on_lem made s t d e r step = goes (barred s) made s t d e r step

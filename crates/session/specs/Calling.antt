@@ -14,16 +14,16 @@ use Rattle.verdict.specs.declared.outcome.Verdict.{Verdict}
 use Rattle.session.specs.Desk.{Desk}
 use Rattle.session.specs.Passing.{barred, place_left}
 use Rattle.session.specs.declared.passed.Passed.{Passed}
-use Rattle.session.specs.declared.sessions.Passing.{Passing}
+use Rattle.session.specs.declared.numbers.Numbers.{Numbers}
 
 module _ {L Mark : Type 0} (m : Meaning L Mark) where
-  abbrev pub pass_made : List ℕ → Passing → L → Desk → Found
+  abbrev pub pass_made : List ℕ → Numbers → L → Desk → Found
   pass_made text s x d = next m (m.settings x) s.style text (s.progress.passes + 1) d.current
 
-  abbrev pub own_step : List ℕ → Passing → L → Lists → Option Lists
+  abbrev pub own_step : List ℕ → Numbers → L → Lists → Option Lists
   own_step text s x = next_record m (m.settings x) s.style text
 
-  abbrev pub LayoutLeft : Passing → L → L → Type 0
+  abbrev pub LayoutLeft : Numbers → L → L → Type 0
   LayoutLeft s x y = Left m x y (place_left (barred s) (m.place x) (m.opening (m.settings x)))
 
 abbrev pub passed_of : Result (Passed × Verdict) Fault → Result Passed Fault

@@ -9,11 +9,9 @@ use Rattle.session.specs.declared.sessions.Passing.{Passing}
 use Rattle.session.specs.declared.sessions.Locked.{Locked}
 
 -- the numbers of a locked session are those of the passing one
-pub record SameNumbers (s : Passing) (l : Locked) : Type 0 where
-  pub style : l.style ≡ s.style
-  pub limit : l.limit ≡ s.limit
-  pub progress : l.progress ≡ s.progress
+abbrev pub SameNumbers : Passing → Locked → Type 0
+SameNumbers s l = l.numbers ≡ s.numbers
 
 abbrev pub LockStep : Passing → Result Locked (Fault × Passing) → Type 0
-LockStep s (Ok l) = (is_settled s.progress.outcome ≡ true) × SameNumbers s l
-LockStep s (Err e) = (is_settled s.progress.outcome ≡ false) × (e.0 ≡ at_pass_lem NotSettled s.progress.passes) × (e.1 ≡ s)
+LockStep s (Ok l) = (is_settled s.numbers.progress.outcome ≡ true) × SameNumbers s l
+LockStep s (Err e) = (is_settled s.numbers.progress.outcome ≡ false) × (e.0 ≡ at_pass_lem NotSettled s.numbers.progress.passes) × (e.1 ≡ s)

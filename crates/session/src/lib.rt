@@ -5,7 +5,7 @@ pub use passed::Passed;
 pub use sessions::{Locked, Passing, open};
 pub use workspace::Workspace;
 
-mod faulting;
+mod numbers;
 mod passed;
 mod sessions;
 mod workspace;

@@ -1,10 +1,9 @@
-// The two kinds of session: plain numbers, which are moved and never copied.
+// The two kinds of session, two types, so that no locked one is passed: plain numbers, which are moved and never copied.
 ghost use Rattle.std.specs.Prelude.{◌≡◌, true};
 ghost use Rattle.session.specs.Outcomes.{is_settled};
 
-use numerals::NumeralStyle;
+use crate::numbers::Numbers;
 pub use opens::open;
-use verdict::Progress;
 
 mod afterwards;
 mod locks;
@@ -14,19 +13,15 @@ mod steps;
 mod takes;
 mod tells;
 
-// A session that makes passes, at most `limit`.
+// A session that makes passes, at most as many as its limit.
 #[derive(Drop)]
 pub struct Passing {
-    style: NumeralStyle,
-    limit: u8,
-    progress: Progress,
+    numbers: Numbers,
 }
 
 // A session whose record has settled.
 #[derive(Drop)]
 pub struct Locked {
-    style: NumeralStyle,
-    limit: u8,
-    progress: Progress,
-    ghost settled: { is_settled progress.outcome ≡ true },
+    numbers: Numbers,
+    ghost settled: { is_settled numbers.progress.outcome ≡ true },
 }

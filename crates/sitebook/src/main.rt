@@ -3,81 +3,65 @@
 #![tactic(auto)]
 
 use failures::Failure;
-use manuscript::check;
-use refusals::refusal;
-use settle::{Tries, settle_on_filler, settle_on_form};
+use layouts::{FixedForm, LineFiller};
+use manuscript::{Counts, check};
+use settle::{Tries, settle_on};
 use std::env;
-use std::io::Read;
+use std::io::{self, Read};
 use std::process::ExitCode;
 
+mod book;
 mod failures;
-mod refusals;
 mod settle;
-mod swings;
 
-fn check_book(rt: &HostRuntime) -> Result<(), Failure> {
+// The manuscript on standard input.
+fn read_text(rt: &HostRuntime) -> io::Result<Vec<u8>> {
     let mut text = Vec::new(rt.alloc());
     rt.stdin().read_to_end(&mut text)?;
-    match check(&text) {
-        Ok(counts) => {
-            println!(rt; "lines {}", counts.lines)?;
-            println!(rt; "labels {}", counts.labels)?;
-            println!(rt; "headings {}", counts.headings)?;
-            Ok(())
-        }
-        Err(fault) => Err(Failure::Refused(refusal(rt.alloc(), &text, fault)?)),
-    }
+    Ok(text)
 }
 
-fn number(text: &str) -> Result<usize, Failure> {
-    match text.parse::<usize>() {
-        Ok(n) => Ok(n),
-        Err(_) => Err(Failure::Usage),
-    }
+fn check_text(rt: &HostRuntime) -> Result<(), Failure> {
+    let text = read_text(rt)?;
+    let Counts {
+        lines,
+        labels,
+        headings,
+    } = check(&text).map_err(|fault| Failure::Refused(fault).naming(rt.alloc(), &text))?;
+    println!(rt; "lines {lines}")?;
+    println!(rt; "labels {labels}")?;
+    println!(rt; "headings {headings}")?;
+    Ok(())
 }
 
-// A letter of another length is no letter of numerals, which opening then refuses.
-fn tries(letter: &str, limit: &str) -> Result<Tries, Failure> {
-    let letter = match letter.as_bytes() {
-        [letter] => *letter,
-        _ => 0,
-    };
-    let limit = number(limit)?;
-    Ok(Tries { letter, limit })
-}
-
-fn settle_book(rt: &HostRuntime, words: &[&str]) -> Result<(), Failure> {
+fn settle_text(rt: &HostRuntime, words: &[&str]) -> Result<(), Failure> {
     match words {
         ["L", width, height, letter, limit] => {
-            settle_on_filler(
-                rt,
-                tries(*letter, *limit)?,
-                number(*width)?,
-                number(*height)?,
-            )
+            let tries = Tries::read(*letter, *limit)?;
+            settle_on(rt, tries, LineFiller::new(width.parse()?, height.parse()?)?)
         }
         ["F", cell, cells, rows, letter, limit] => {
-            let tries = tries(*letter, *limit)?;
-            settle_on_form(rt, tries, number(*cell)?, number(*cells)?, number(*rows)?)
+            let tries = Tries::read(*letter, *limit)?;
+            settle_on(
+                rt,
+                tries,
+                FixedForm::new(cell.parse()?, cells.parse()?, rows.parse()?)?,
+            )
         }
         _ => Err(Failure::Usage),
     }
 }
 
 fn run(rt: &HostRuntime) -> Result<(), Failure> {
-    let heap = rt.alloc();
-    let mut arguments = Vec::new(heap);
-    for word in env::args(rt)? {
-        arguments.push(word)?;
-    }
-    let mut words = Vec::new(heap);
-    for word in &arguments {
-        words.push(word.as_str())?;
-    }
+    let arguments: Vec<String> = env::args(rt)?.collect(rt.alloc())?;
+    let words: Vec<&str> = arguments
+        .iter()
+        .map(|word| word.as_str())
+        .collect(rt.alloc())?;
     let words: &[&str] = &words;
     match words {
-        [_, "check", ..] => check_book(rt),
-        [_, "settle", rest @ ..] => settle_book(rt, rest),
+        [_, "check", ..] => check_text(rt),
+        [_, "settle", rest @ ..] => settle_text(rt, rest),
         _ => Err(Failure::Usage),
     }
 }

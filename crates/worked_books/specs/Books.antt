@@ -5,8 +5,7 @@
 --   after                   the record after so many passes from the empty record
 --   pages                   the pages of its labels
 --   saved                   the lines that saving it writes
---   says                    a verdict of these numbers
---   Judged                  passes from the empty record lead to numbers that give this verdict
+--   Judged                  passes from the empty record lead to numbers that give a verdict of these numbers
 --   Worked                  the books
 use Rattle.std.specs.Prelude.{◌≡◌, ℕ, List, [], ◌∷◌, map, Some, None, codes, Option}
 use Rattle.std.proofs.Common.{arith}
@@ -22,9 +21,8 @@ use Rattle.record.specs.Lists.{Lists, no_entries}
 use Rattle.recordlines.specs.Frame.{lines}
 use Rattle.verdict.specs.Brent.{verdict_of}
 use Rattle.verdict.specs.Runs.{run, Reached}
-use Rattle.verdict.specs.declared.outcome.Outcome.{Outcome}
+use Rattle.verdict.specs.Said.{Said, said, says}
 use Rattle.verdict.specs.declared.outcome.Outcome.TheVariants.{Settled, Oscillates}
-use Rattle.verdict.specs.declared.outcome.Verdict.{Verdict}
 use Rattle.verdict.specs.declared.progress.Progress.{Progress}
 
 abbrev pub text_t : List ℕ
@@ -53,15 +51,12 @@ abbrev pub saved : Option Lists → List ℕ
 saved None = []
 saved (Some x) = lines x
 
-abbrev pub says : Outcome → ℕ → ℕ → ℕ → Verdict
-says o k q b = record { kind = o; passes = k; period = q; since = b }
-
-pub record Judged {L Mark : Type 0} (m : Meaning L Mark) (s : m.Settings) (style : NumeralStyle) (text : List ℕ) (v : Verdict) : Type 0 where
+pub record Judged {L Mark : Type 0} (m : Meaning L Mark) (s : m.Settings) (style : NumeralStyle) (text : List ℕ) (v : Said) : Type 0 where
   pub progress : Progress
   pub current : Lists
   pub anchor : Lists
   pub reached : Reached (next_record m s style text) no_entries progress current anchor
-  pub verdict : verdict_of progress ≡ v
+  pub verdict : said (verdict_of progress) ≡ v
 
 pub record Worked : Type 0 where
   -- an empty manuscript settles at its first pass

@@ -2,7 +2,6 @@
 ghost use Rattle.session.specs.Locking.{LockStep};
 
 use super::{Locked, Passing};
-use crate::faulting::at_pass;
 use faults::{Cause, Fault};
 use verdict::Outcome;
 
@@ -11,22 +10,12 @@ impl Passing {
     pub fn lock(self) -> Result<Locked, (Fault, Passing)>
         ensures { LockStep self result }
     {
-        match self.progress.outcome {
-            Outcome::Settled => {
-                let Passing {
-                    style,
-                    limit,
-                    progress,
-                } = self;
-                Ok(Locked {
-                    style,
-                    limit,
-                    progress,
-                })
-            }
+        match self.numbers.progress.outcome {
+            Outcome::Settled => Ok(Locked {
+                numbers: self.numbers,
+            }),
             Outcome::Open | Outcome::Oscillates => {
-                let fault = at_pass(Cause::NotSettled, self.progress.passes);
-                Err((fault, self))
+                Err((self.numbers.fault(Cause::NotSettled), self))
             }
         }
     }

@@ -7,6 +7,7 @@ ghost use Rattle.session.specs.Opening.{OpenStep, LeadsOff};
 ghost use Rattle.session.specs.Taking.{LeadsTo};
 
 use super::Passing;
+use crate::numbers::Numbers;
 use crate::workspace::Workspace;
 use faults::{Cause, Fault};
 use numerals::NumeralStyle;
@@ -27,6 +28,7 @@ fn lay_out(start: &Record, workspace: &mut Workspace)
     workspace.anchor.copy_from(table);
 }
 
+// `open` without its law, which is proved over the step as one fact.
 fn begin(
     letter: u8,
     limit: usize,
@@ -35,21 +37,16 @@ fn begin(
 ) -> Result<Passing, Fault>
     ensures { OpenStep letter limit (record_lists start.now) (desk_of workspace.old) result (desk_of workspace.new) }
 {
-    let Some(style) = NumeralStyle::of_letter(letter) else {
+    let (Ok(style), Ok(limit @ 1..)) = (NumeralStyle::try_from(letter), u8::try_from(limit)) else {
         return Err(Fault::plain(Cause::SessionSettings));
     };
-    if limit == 0 {
-        return Err(Fault::plain(Cause::SessionSettings));
-    }
-    if limit > 255 {
-        return Err(Fault::plain(Cause::SessionSettings));
-    }
     lay_out(start, workspace);
-    Ok(Passing {
+    let numbers = Numbers {
         style,
-        limit: limit as u8,
+        limit,
         progress: Progress::new(),
-    })
+    };
+    Ok(Passing { numbers })
 }
 
 // Opens a session that starts from a record; `d` or `r` is the letter of its numerals, and it makes 1 to 255 passes at most.
@@ -60,7 +57,7 @@ pub fn open(
     workspace: &mut Workspace,
 ) -> Result<Passing, Fault>
     ensures step { OpenStep letter limit (record_lists start.now) (desk_of workspace.old) result (desk_of workspace.new) }
-    ensures begun { IfOk result (λ s. (f : Lists → Option Lists) → LeadsTo f (record_lists start.now) s.progress (desk_of workspace.new)) }
+    ensures begun { IfOk result (λ s. (f : Lists → Option Lists) → LeadsTo f (record_lists start.now) s.numbers.progress (desk_of workspace.new)) }
 {
     leads_off();
     begin(letter, limit, start, workspace)

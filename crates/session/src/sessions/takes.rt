@@ -19,13 +19,13 @@ fn counts_on()
 
 // Makes the record in the spare the current one. Both comparisons come before the anchor's record changes.
 fn take_record(progress: Progress, workspace: &mut Workspace) -> Progress
-    requires { distinct (kept_of workspace.old.spare).lists.labels ≡ true }
-    ensures { Taken (kept_of workspace.old.spare).lists progress (desk_of workspace.old) result (desk_of workspace.new) }
+    requires { distinct (kept_of workspace.old.spare.findings).lists.labels ≡ true }
+    ensures { Taken (kept_of workspace.old.spare.findings).lists progress (desk_of workspace.old) result (desk_of workspace.new) }
 {
-    let again = workspace.spare.table().same(&workspace.current);
-    let back = workspace.spare.table().same(&workspace.anchor);
+    let again = workspace.spare.findings.table().same(&workspace.current);
+    let back = workspace.spare.findings.table().same(&workspace.anchor);
     let after = progress.advance(again, back);
-    workspace.spare.exchange(&mut workspace.current);
+    workspace.spare.findings.exchange(&mut workspace.current);
     if after.at_anchor() {
         workspace.anchor.copy_from(&workspace.current);
     }
@@ -35,14 +35,14 @@ fn take_record(progress: Progress, workspace: &mut Workspace) -> Progress
 impl Passing {
     // Takes in the record that a pass has made in the spare.
     pub(crate) fn take_in(&mut self, words: usize, workspace: &mut Workspace) -> Passed
-        requires spare_value { distinct (kept_of workspace.old.spare).lists.labels ≡ true }
-        requires progress_value { takes self.old.progress ≡ true }
-        ensures { Accepts (kept_of workspace.old.spare).lists words self.old (desk_of workspace.old) (Ok result) self.new (desk_of workspace.new) }
+        requires spare_value { distinct (kept_of workspace.old.spare.findings).lists.labels ≡ true }
+        requires progress_value { takes self.old.numbers.progress ≡ true }
+        ensures { Accepts (kept_of workspace.old.spare.findings).lists words self.old.numbers (desk_of workspace.old) (Ok result) self.new.numbers (desk_of workspace.new) }
     {
         counts_on();
-        self.progress = take_record(self.progress, workspace);
+        self.numbers.progress = take_record(self.numbers.progress, workspace);
         Passed {
-            number: self.progress.passes,
+            number: self.numbers.progress.passes,
             words,
         }
     }

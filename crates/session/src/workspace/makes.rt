@@ -4,10 +4,9 @@ ghost use Rattle.record.specs.Lists.{no_entries};
 ghost use Rattle.session.specs.Desk.{desk_of, both};
 
 use super::Workspace;
-use findings::Findings;
+use passes::Spare;
 use record::Table;
 use std::alloc::{AllocError, Global};
-use typeset::NumeralBuffer;
 
 impl Workspace {
     // Both records empty. No call of a session allocates.
@@ -16,12 +15,11 @@ impl Workspace {
     {
         let current = Table::new(heap)?;
         let anchor = Table::new(heap)?;
-        let spare = Findings::new(heap)?;
+        let spare = Spare::new(heap)?;
         Ok(Workspace {
             current,
             anchor,
             spare,
-            numerals: NumeralBuffer::new(),
         })
     }
 }
