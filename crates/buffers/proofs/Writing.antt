@@ -1,9 +1,6 @@
--- The laws of `written`: nothing, and one text after another.
-use Rattle.std.proofs.Common.{◌≡◌, ℕ, ◌+◌, ◌≤◌, List, [], ◌++◌, length, take, drop, sym, ap, ◌∙◌, append_assoc, add-zero, add_assoc, arith, length-append, length-drop, take-append-drop, length-take-le, drop-drop, take_at, drop_at}
+-- The laws of `written`: one text after another.
+use Rattle.std.proofs.Common.{◌≡◌, ℕ, ◌+◌, ◌≤◌, List, ◌++◌, length, take, drop, sym, ap, ◌∙◌, append_assoc, add_assoc, arith, length-append, length-drop, length-take-le, drop-drop, take_at, drop_at}
 use Rattle.buffers.specs.Written.{written}
-
-pub written_none : (o : List ℕ) (at : ℕ) → written o at [] ≡ o
-written_none o at = rw add-zero (take-append-drop at o)
 
 module _ (o : List ℕ) (at : ℕ) (a : List ℕ) (h : at + length a ≤ length o) where
   long : length (take at o ++ a) ≡ at + length a

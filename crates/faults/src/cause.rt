@@ -40,6 +40,7 @@ pub enum Layer {
     RecordLines = 5,
 }
 
+// A method and no `From`: its name says which of number and layer is meant.
 impl Cause {
     pub fn number(self) -> u8
         ensures { result ≡ number_of self }

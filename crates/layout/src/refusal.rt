@@ -3,6 +3,7 @@ ghost use Rattle.std.specs.Prelude.{◌≡◌};
 ghost use Rattle.layout.specs.Refusals.{refusal_number, cause_of};
 
 use faults::Cause;
+use std::error::Error;
 use std::fmt;
 
 // As answers number them.
@@ -29,6 +30,8 @@ impl fmt::Display for Refusal {
         })
     }
 }
+
+impl Error for Refusal {}
 
 // The cause of a fault that the refusal makes.
 impl From<Refusal> for Cause {

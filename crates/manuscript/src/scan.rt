@@ -40,7 +40,7 @@ pub fn span_of(line: Line, word: Word, marked: Marked) -> Span
     }
 }
 
-// The same for a word in its line.
+// The same for a word in its line; the call above was there before lines had their words, and stays.
 pub fn name_span_of(word: LineWord, marked: Marked) -> Span
     ensures { result ≡ name_span (line_of word.entry.line) (word_of word.entry.word) (value_of marked.entry) }
 {
@@ -158,6 +158,7 @@ impl<'a> Tally<'a> {
         ensures value { after result self.new ≡ scan_lines (lines text.now) (seen self.old) }
         ensures lines { IfOk result (λ n. n ≡ length (lines text.now)) }
     {
+        // the number of the last line is the count of all; `for` takes the reader, which had it besides
         let mut count = 0;
         for line in Reader::new(text) {
             self.note_line(line)?;

@@ -1,18 +1,10 @@
 -- The steps of the greedy rule, and its sum.
 use Rattle.std.specs.List.{flat_map}
 use Rattle.std.proofs.lemmas.Grind.{flat_map-append}
-use Rattle.std.proofs.Common.{◌≡◌, ℕ, zero, suc, ◌+◌, ◌-◌, ◌*◌, ◌/◌, ◌%◌, ◌<◌, ◌≤◌, List, [], ◌∷◌, ◌++◌, get_or, drop, replicate, sym, ap, ◌∙◌, append_assoc, append-nil, None, suc-mul, div-add-mod', add-one, arith}
-use native.Mathlib.Nat.{div-eq_of_lt, div-eq-sub-div, mod-one}
+use Rattle.std.proofs.Common.{◌≡◌, ℕ, zero, suc, ◌+◌, ◌*◌, ◌/◌, ◌%◌, ◌<◌, ◌≤◌, List, [], ◌∷◌, ◌++◌, get_or, drop, replicate, sym, ap, ◌∙◌, append_assoc, append-nil, None, suc-mul, div-add-mod', arith}
+use native.Mathlib.Nat.{mod-one}
 use Rattle.std.proofs.lemmas.List.{drop_more, drop_all}
 use Rattle.numerals.specs.Roman.{Row, rows, letters, chosen, values}
-
--- a row that is not above the rest is added once more
-pub row_again : (text : List ℕ) (n : ℕ) (r : Row) → 0 < r.0 → r.0 ≤ n → text ++ flat_map letters (replicate (n / r.0) r) ≡ (text ++ letters r) ++ flat_map letters (replicate ((n - r.0) / r.0) r)
-row_again text n r pos le = ap (λ k. text ++ flat_map letters (replicate k r)) (div-eq-sub-div pos le ∙ add-one _) ∙ sym (append_assoc text (letters r) _)
-
--- a row above the rest is added no more
-pub row_done : (text : List ℕ) (n : ℕ) (r : Row) → n < r.0 → text ++ flat_map letters (replicate (n / r.0) r) ≡ text
-row_done text n r lt = ap (λ k. text ++ flat_map letters (replicate k r)) (div-eq_of_lt lt) ∙ append-nil text
 
 -- a row is added as often as it goes into the rest, and then come the rows after it
 pub row_added : (text : List ℕ) (i n : ℕ) (r : Row) → i < 12 → r ≡ get_or rows i (0, 0, None) → text ++ flat_map letters (chosen (drop i rows) n) ≡ (text ++ flat_map letters (replicate (n / r.0) r)) ++ flat_map letters (chosen (drop (i + 1) rows) (n % r.0))

@@ -4,7 +4,8 @@ ghost use Rattle.numerals.specs.Numeral.{decimal};
 
 use crate::text::Text;
 
-// Adds the decimal numeral of a number for which there is room.
+// Adds the decimal numeral of a number for which there is room. By hand: `write!` answers a Result that cannot fail here. Each of these
+// calls asks for the room of another text, so the room is no fact of a type.
 pub fn push_decimal(text: &mut Text, n: u16)
     requires below { n < 1000 }
     requires room { length text.old.items + length (decimal n) ≤ 12 }

@@ -22,7 +22,7 @@ pub fn page_text(style: NumeralStyle, page: Page) -> Text
     text
 }
 
-// Writes the numeral of a page and answers its end. Changes nothing where the number is no page or the numeral does not fit.
+// Writes the numeral of a page into a buffer that the caller lends, and answers its end. Changes nothing where the number is no page or the numeral does not fit.
 pub fn page_numeral(style: NumeralStyle, page: u16, out: &mut [u8], at: usize) -> Option<usize>
     ensures { PagePuts style page out.old at result out.new }
 {

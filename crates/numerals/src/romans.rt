@@ -42,12 +42,10 @@ fn push_row(text: &mut Text, row: Row, n: u16) -> u16
     ensures rest { result ≡ n % row.0 }
     ensures items { text.new.items ≡ text.old.items ++ flat_map letters (replicate (n / row.0) row) }
 {
-    let mut rest = n;
-    while rest >= row.0 {
+    for _ in 0..n / row.0 {
         push_letters(text, row);
-        rest -= row.0;
     }
-    rest
+    n % row.0
 }
 
 // Adds the roman numeral of a number for which there is room.

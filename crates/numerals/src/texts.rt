@@ -35,7 +35,7 @@ impl HeadingNumber {
     }
 }
 
-// Writes the number of a heading and answers its end, or changes nothing where it does not fit.
+// Writes the number of a heading into a buffer that the caller lends, and answers its end, or changes nothing where it does not fit.
 pub fn heading_number(number: HeadingNumber, out: &mut [u8], at: usize) -> Option<usize>
     ensures { Puts (number_text number.level number.counters) out.old at result out.new }
 {

@@ -16,10 +16,13 @@ pub enum Kind {
 pub fn kind_of(line: &[u8]) -> Kind
     ensures { result ≡ kind line.now }
 {
-    match line {
-        [b'#', ..] => Kind::Heading,
-        [b'!', ..] => Kind::Directive,
-        [b'%', ..] => Kind::Remark,
+    let [first, ..] = line else {
+        return Kind::Text;
+    };
+    match char::from(*first) {
+        '#' => Kind::Heading,
+        '!' => Kind::Directive,
+        '%' => Kind::Remark,
         _ => Kind::Text,
     }
 }

@@ -1,7 +1,7 @@
 // What the reader hands out, and the plain record of where it stands.
 ghost use Rattle.std.specs.Prelude.{◌+◌, ◌^◌, ◌<◌, ◌≤◌, length};
 
-// The offset of the next line, and how many lines were read.
+// The offset of the next line, and how many lines were read. A number beside the text and no slice of what is left: faults tell offsets.
 #[derive(Clone, Copy, PartialEq, Eq, Debug)]
 pub struct Place {
     pub at: usize,

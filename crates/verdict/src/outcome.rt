@@ -49,7 +49,7 @@ impl Verdict {
         }
     }
 
-    // The period that is named, 0 while open.
+    // The period that is named, 0 while open, as answers show it.
     pub fn period(self) -> u8
         ensures value { result ≡ (said self).period }
     {
@@ -60,7 +60,7 @@ impl Verdict {
         }
     }
 
-    // The pass that it is named from, 0 while open.
+    // The pass that it is named from, 0 while open, as answers show it.
     pub fn since(self) -> u8
         ensures value { result ≡ (said self).since }
     {

@@ -1,22 +1,26 @@
-use Rattle.std.proofs.Common.{◌-◌, ◌/◌, ◌++◌, replicate, length, sym, ap, ◌∙◌, arith, length-append}
+use Rattle.std.proofs.Common.{◌≡◌, ℕ, suc, ◌+◌, ◌-◌, ◌/◌, ◌<◌, List, ◌++◌, length, replicate, sym, ap, ◌∙◌, append_assoc, arith, length-append}
 use Rattle.std.specs.List.{flat_map}
-use Rattle.numerals.specs.Roman.{letters}
-use native.Mathlib.Nat.{mod-eq-sub-mod}
-use Rattle.numerals.proofs.Greedy.{row_again, row_done}
+use Rattle.std.proofs.lemmas.List.{append-nil}
+use Rattle.numerals.specs.Roman.{Row, letters}
 use Rattle.numerals.proofs.romans.push_row.Goals as goal
+
+-- the next row, and those that are left after it
+again : (xs : List ℕ) (row : Row) (n i : ℕ) → i < n → (xs ++ letters row) ++ flat_map letters (replicate (n - (i + 1)) row) ≡ xs ++ flat_map letters (replicate (n - i) row)
+again xs row n i h =
+    let e : suc (n - (i + 1)) ≡ n - i = omega arith in
+    append_assoc xs (letters row) (flat_map letters (replicate (n - (i + 1)) row)) ∙ ap (λ k. xs ++ flat_map letters (replicate k row)) e
 
 pub push_letters-requires : goal.push_letters-requires
 push_letters-requires c =
-    let e = row_again c.loop-rest.text.items c.loop-rest.rest c.args.row c.requires.value c.loop-rest-test.true in
-    omega (arith, c.requires.room, simp length-append at (ap length (sym e ∙ c.loop-rest.invariant.items)))
+    let e = again c.loop.text.items c.args.row (c.args.n / c.args.row.0) c.loop.counter c.loop-test.true in
+    omega (arith, c.requires.room, simp length-append at (ap length (e ∙ c.loop.invariant)))
 
-pub loop-rest-preserved : goal.loop-rest-preserved
-loop-rest-preserved c =
+pub loop-preserved : goal.loop-preserved
+loop-preserved c =
     let row = c.args.row in
-    record {
-      rest = sym (mod-eq-sub-mod c.loop-rest-test.true) ∙ c.loop-rest.invariant.rest;
-      items = ap (λ l. l ++ flat_map letters (replicate ((c.loop-rest.rest - row.0) / row.0) row)) c.push_letters.ensures ∙ sym (row_again c.loop-rest.text.items c.loop-rest.rest row c.requires.value c.loop-rest-test.true) ∙ c.loop-rest.invariant.items;
-    }
+    ap (λ l. l ++ flat_map letters (replicate (c.args.n / row.0 - (c.loop.counter + 1)) row)) c.push_letters.ensures ∙ again c.loop.text.items row (c.args.n / row.0) c.loop.counter c.loop-test.true ∙ c.loop.invariant
 
 pub returns-clause-items : goal.returns-clause-items
-returns-clause-items c = sym (row_done c.loop-rest.text.items c.loop-rest.rest c.args.row c.loop-rest-test.false) ∙ c.loop-rest.invariant.items
+returns-clause-items c =
+    let none : c.args.n / c.args.row.0 - c.loop.counter ≡ 0 = omega (arith, c.loop-test.false) in
+    sym (append-nil c.loop.text.items) ∙ ap (λ k. c.loop.text.items ++ flat_map letters (replicate k c.args.row)) (sym none) ∙ c.loop.invariant

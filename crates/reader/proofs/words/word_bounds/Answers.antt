@@ -1,13 +1,10 @@
 use Rattle.std.proofs.Common.{◌≡◌, ◌+◌, ◌-◌, ◌<◌, ◌∷◌, length, take, drop, sym, ap, ◌∙◌, arith}
 use Rattle.std.specs.List.{prefix_len}
-use Rattle.std.proofs.lemmas.List.{at_drop_all, take_rest}
+use Rattle.std.proofs.lemmas.List.{take_rest}
 use Rattle.reader.specs.Words.{space, in_word, words}
 use Rattle.reader.proofs.Runs.{words_law}
 use Rattle.reader.proofs.Laws.{words_none, word_here, word_length}
 use Rattle.reader.proofs.words.word_bounds.Goals as goal
-
-pub returns-then-at-line : goal.returns-then-at-line
-returns-then-at-line c = record { word = at_drop_all (words c.args.at) c.args.line.now c.args.at c.if-at-line.true; law = words_law c.args.at _ }
 
 pub returns-then-length-eq0 : goal.returns-then-length-eq0
 returns-then-length-eq0 c =

@@ -1,13 +1,10 @@
 use Rattle.std.proofs.Common.{◌≡◌, ◌+◌, ◌-◌, ◌<◌, ◌≤◌, ◌∷◌, length, take, drop, sym, refl, ap, ◌∙◌, arith}
 use Rattle.std.specs.List.{prefix_len}
-use Rattle.std.proofs.lemmas.List.{at_drop_all, take_rest}
+use Rattle.std.proofs.lemmas.List.{take_rest}
 use Rattle.reader.specs.Lines.{in_line, SourceLine, lines_from}
 use Rattle.reader.proofs.Laws.{line_here, last_line, line_length}
 use Rattle.reader.proofs.reader.Reader.line_ahead.Goals as goal
 use Rattle.reader.proofs.reader.Reader.line_ahead.Goals.{then-end-text, else-end-text}
-
-pub returns-then-offset-text : goal.returns-then-offset-text
-returns-then-offset-text c = at_drop_all (lines_from (c.args.self.now.place.lines + 1) c.args.self.now.place.at) c.args.self.now.text.now c.args.self.now.place.at (omega arith)
 
 pub returns : goal.returns
 returns c =
