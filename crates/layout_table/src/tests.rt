@@ -9,6 +9,7 @@ use std::test::Fail;
 // Page, line and column, or the number of a refusal.
 type Stands = Result<(u16, u8, u8), u8>;
 
+// Rows of data, which closures would hide.
 #[derive(Clone, Copy)]
 enum Step {
     // a word of so many bytes, and where it comes to stand

@@ -4,7 +4,7 @@ use std::alloc::{AllocError, Global};
 use std::test::Fail;
 
 // The number and the line of the refusal; none where the lines load and saving gives them back.
-// A number of 0 is no refusal and a line of 0 no line: an enum would only repeat the pair that each case spells.
+// `Some((0, 0))` is no refusal, and differs from every pair that a case wants.
 fn refusal(heap: Global, lines: &[u8]) -> Option<(u8, usize)> {
     let mut out = [0; 8192];
     match load(heap, lines) {

@@ -1,7 +1,7 @@
 // Numerals and numbers as they are printed.
 use numerals::{Counters, HeadingNumber, NumeralStyle, heading_number, page_numeral};
 
-// Whether a page prints as this text, between bytes that stay.
+// Whether a page prints as this text, between bytes that stay: the buffer is lent to the call that is tested, here and below.
 fn prints(style: NumeralStyle, page: u16, text: &[u8]) -> bool {
     let mut out = [b'*'; 16];
     let end = page_numeral(style, page, &mut out, 1);

@@ -1,4 +1,4 @@
-// The lines of a text, one after the other.
+// The lines of a text, one after the other. No `reader::Reader`: that one takes a last line without its newline too.
 ghost use Rattle.std.specs.Prelude.{◌≡◌, ◌+◌, ◌^◌, ◌≤◌, length};
 
 use runs::{AnyBut, run_length};

@@ -40,7 +40,8 @@ impl TryFrom<&[u8]> for RawPosition {
     }
 }
 
-// The label entry with this name and position, if they are right.
+// The label entry with this name and position, if they are right. Number and page are made here and below in a line each, which a
+// function of their own would only name.
 pub fn label_entry(name: &[u8], position: RawPosition) -> Option<LabelEntry>
     ensures { Makes label_ok label_of (raw_label name.now position) result }
 {

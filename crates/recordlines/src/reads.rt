@@ -30,6 +30,7 @@ pub fn load(heap: Global, bytes: &[u8]) -> Result<Record, LoadError>
 {
     let mut entries = Record::empty(heap)?;
     let mut lines = Lines::of(bytes);
+    // no `for`: what is left of the lines is wanted after the end frame
     while let Some(line) = lines.next() {
         let in_line = |cause| Fault::in_line(cause, line.number);
         let told = take_line(&mut entries, line.digits).map_err(in_line)?;

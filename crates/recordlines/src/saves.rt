@@ -26,7 +26,8 @@ fn lines_length<E: Framed>(entries: &[E]) -> usize
     total
 }
 
-// Writes the lines of the entries, for which there is room, and answers their end. The place stays a number beside the buffer, as `write` takes them.
+// Writes the lines of the entries, for which there is room, and answers their end. The buffer is the caller's, and no memory is taken
+// here, so the place in it stays a number beside it.
 fn write_lines<E: Framed>(entries: &[E], out: &mut [u8], at: usize) -> usize
     requires { at + length (flat_map (λ e. line (E.Framed.frame e)) entries.now) ≤ length out.old }
     ensures end { result ≡ at + length (flat_map (λ e. line (E.Framed.frame e)) entries.now) }

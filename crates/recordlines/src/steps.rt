@@ -9,14 +9,14 @@ use faults::Cause;
 use names::{NameError, named};
 use record::Record;
 
-// A frame that is in order: one more entry, or the end.
+// A frame that is in order: one more entry, or the end. Two named cases with nothing beside them, where an Option would say less.
 #[derive(Clone, Copy)]
 pub enum Told {
     Entry,
     End,
 }
 
-// A frame is told by its first bytes and the rest. The kinds stay bytes, as an enum of them would be read from bytes all the same.
+// A frame is told by its first bytes and the rest: slice patterns on them are the form that is asked for.
 pub fn take_frame(entries: &mut Record, frame: &[u8]) -> Result<Told, Cause>
     ensures { Does (step (record_lists entries.old) frame.now) result (record_lists entries.old) (record_lists entries.new) }
 {

@@ -9,6 +9,7 @@ use arrayvec::ArrayVec;
 // Room for the line of any frame.
 pub type Line = ArrayVec<u8, 49>;
 
+// By hand: the crate `hex` writes capitals only on the heap.
 fn hex_digit(value: u8) -> u8
     requires { value < 16 }
     ensures { result ≡ hex_digit_lem value }

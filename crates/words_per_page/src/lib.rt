@@ -86,7 +86,7 @@ impl Layout for WordsPerPage {
     }
 }
 
-// The pages of the words of every accepted run never go back.
+// The pages of the words of every accepted run never go back: the generic function of `layout`, for these settings.
 pub fn pages_in_order()
     ensures { ReadingOrder counting }
 {

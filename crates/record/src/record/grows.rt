@@ -27,7 +27,7 @@ impl Record {
         &self.table
     }
 
-    // Whether the two hold the same entries in the same order.
+    // Whether the two hold the same entries in the same order. No derived `==`: one comparison for all lists is the form asked for.
     pub fn same(&self, other: &Record) -> bool
         ensures { Decides result (record_lists self.now ≡ record_lists other.now) }
     {

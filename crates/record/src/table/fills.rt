@@ -29,7 +29,8 @@ impl Table {
         entry.page = page;
     }
 
-    // Gives the i-th label entry its number and page, if there is such an entry and page; all else stays.
+    // Gives the i-th label entry its number and page, if there is such an entry and page; all else stays. Number and page stay two
+    // parameters, here and below: the page may be none, so the two are no position yet.
     pub fn fill(&mut self, i: usize, number: HeadingNumber, page: u16) -> Result<(), EntryError>
         ensures { Fills result (lists_of self.old) i (placed number page) (lists_of self.new) }
     {

@@ -27,6 +27,7 @@ impl Table {
         self.contents.clear();
     }
 
+    // From here on one call for each list, by the list's name: what they do is done once, by `Entries`.
     pub fn labels(&self) -> &[LabelEntry]
         ensures value { map label_of result.now ≡ (lists_of self.now).labels }
         ensures bound { length result.now ≤ 128 }

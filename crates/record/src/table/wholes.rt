@@ -6,7 +6,7 @@ use super::Table;
 use crate::compare::equal_lists;
 
 impl Table {
-    // Whether the two hold the same entries in the same order. No derived `==`: one comparison serves all lists of entries.
+    // Whether the two hold the same entries in the same order. No derived `==`: one comparison for all lists is the form asked for.
     pub fn same(&self, other: &Table) -> bool
         ensures { Decides result (lists_of self.now ≡ lists_of other.now) }
     {

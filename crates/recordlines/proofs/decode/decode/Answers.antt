@@ -1,18 +1,9 @@
 use Rattle.std.proofs.Common.{◌≡◌, ◌+◌, ◌*◌, ◌/◌, ◌<◌, length, drop, sym, ap, ◌∙◌, subst, arith}
-use Rattle.std.proofs.lemmas.Bool.{cond-true, cond-false, le-leb, lt-leb, eqb-true, eqb-false}
+use Rattle.std.proofs.lemmas.Bool.{cond-true, le-leb, eqb-false}
 use Rattle.recordlines.specs.Hex.{after, bytes_of}
 use Rattle.recordlines.specs.Step.{Decodes}
-use Rattle.recordlines.proofs.Pairs.{after_none, byte_more, no_byte, no_more, one_more}
+use Rattle.recordlines.proofs.Pairs.{byte_more, no_byte, one_more}
 use Rattle.recordlines.proofs.decode.decode.Goals as goal
-
-pub returns-then-digits-gt48 : goal.returns-then-digits-gt48
-returns-then-digits-gt48 c = cond-false _ _ _ (lt-leb _ 48 c.if-digits-gt48.true)
-
-pub loop-high-init : goal.loop-high-init
-loop-high-init c = record {
-  all = ap (λ xs. after xs (bytes_of c.args.digits.now)) c.new-frame.ensures ∙ after_none _;
-  count = ap length c.new-frame.ensures;
-}
 
 pub returns-in_err-pair_value : goal.returns-in_err-pair_value
 returns-in_err-pair_value c =
@@ -32,15 +23,6 @@ loop-high-preserved c =
       all = ap (λ l. after l (bytes_of (drop ((i + 1) * 2) ds))) c.push.ensures.items ∙ more ∙ c.loop-high.invariant.all;
       count = omega (arith, c.push.ensures.len, c.loop-high.invariant.count);
     }
-
-pub returns-then-is_empty : goal.returns-then-is_empty
-returns-then-is_empty c =
-    let ds = c.args.digits.now in
-    let end : c.loop-high.high-index * 2 ≡ length ds / 2 * 2 = omega (arith, c.loop-high-test.false, c.loop-high.auto.high-index-end, c.as_chunks.ensures.front_len) in
-    let rest = ap (λ n. drop n ds) end ∙ sym c.as_chunks.ensures.back in
-    let xs = c.loop-high.frame.items in
-    cond-true _ _ _ (le-leb _ 48 c.if-digits-gt48.false) ∙ sym c.loop-high.invariant.all ∙ ap (λ l. after xs (bytes_of l)) rest
-    ∙ no_more xs c.as_chunks.result.1.now (eqb-true _ 0 (sym c.if-is_empty.ensures))
 
 pub returns-else-is_empty : goal.returns-else-is_empty
 returns-else-is_empty c =
