@@ -35,3 +35,16 @@ impl Spare {
         })
     }
 }
+
+#[cfg(test)]
+mod tests {
+    use super::Spare;
+    use std::alloc::AllocError;
+
+    #[test]
+    fn spare_is_made(rt: HostRuntime) -> Result<(), AllocError> {
+        let spare = Spare::new(rt.alloc())?;
+        assert_eq!(rt; spare.findings.words(), 0);
+        Ok(())
+    }
+}

@@ -12,7 +12,7 @@ use faults::{Fault, Span};
 use manuscript::{Counts, check};
 use std::alloc::{AllocError, Global};
 
-// What answers show where there is no name.
+// What answers show where there is no name; they have 0 for no line too.
 const NO_NAME: Span = Span {
     offset: 0,
     length: 0,
@@ -48,22 +48,6 @@ fn check_line(heap: Global, text: &[u8]) -> Result<String, AllocError>
         Ok(counts) => counts_line(heap, counts),
         Err(fault) => fault_line(heap, fault),
     }
-}
-
-// The answers of a request, one after the other; the library joins no strings.
-pub(crate) fn joined(
-    heap: Global,
-    answers: &[String],
-    separator: &str,
-) -> Result<String, AllocError> {
-    let mut line = String::new(heap);
-    for (i, answer) in answers.iter().enumerate() {
-        if i > 0 {
-            line.push_str(separator)?;
-        }
-        line.push_str(answer.as_str())?;
-    }
-    Ok(line)
 }
 
 // The answer to a request that is carried out: a command, an argument, and what follows them.

@@ -1,5 +1,5 @@
 // Requests that carry out the calls of a session.
-use crate::answers::{fault_line, joined};
+use crate::answers::fault_line;
 use crate::digits::{decode, encode};
 use crate::named::{Job, on_layout};
 use crate::unanswered::Unanswered;
@@ -13,7 +13,7 @@ use std::alloc::{AllocError, Global};
 use std::str::FromStr;
 use verdict::Verdict;
 
-// A call that a request asks for.
+// A call that a request asks for. Data and no closures: a word of the request is read here, and carried out in one place below.
 #[derive(Clone, Copy)]
 enum Call {
     Pass,
@@ -40,7 +40,7 @@ impl FromStr for Call {
     }
 }
 
-// A session of either kind.
+// A session of either kind: neither is the failure of the other.
 #[derive(Drop)]
 enum Session {
     Open(Passing),
@@ -177,7 +177,7 @@ impl Job for Asked<'_> {
             session = next;
             answers.push(line)?;
         }
-        Ok(joined(heap, &answers, " ; ")?)
+        Ok(answers.join(heap, " ; ")?)
     }
 }
 

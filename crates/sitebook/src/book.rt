@@ -10,7 +10,7 @@ use verdict::Verdict;
 pub(crate) struct Book<'a> {
     rt: &'a HostRuntime,
     pub(crate) workspace: Workspace,
-    // After each pass the pages of the labels, then those of the headings.
+    // After each pass the pages of the labels, then those of the headings: a place has one index in every pass.
     history: Vec<Vec<u16>>,
 }
 
@@ -127,12 +127,9 @@ fn places(heap: Global, table: &Table) -> Result<Vec<String>, AllocError> {
 }
 
 fn listed(heap: Global, pages: &[u16]) -> Result<String, AllocError> {
-    let mut text = String::new(heap);
-    for page in pages {
-        if !text.is_empty() {
-            text.push_str(", ")?;
-        }
-        write!(text, "{page}")?;
-    }
-    Ok(text)
+    let numbers: Vec<String> = pages
+        .iter()
+        .map(|page| format!(in heap; "{page}"))
+        .try_collect(heap)?;
+    numbers.join(heap, ", ")
 }

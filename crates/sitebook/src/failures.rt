@@ -9,9 +9,8 @@ const USAGE: &str =
 
 #[derive(Debug, Drop)]
 pub enum Failure {
-    Refused(Fault),
-    // A refusal, and the name that it is about.
-    About(Fault, String),
+    // A refusal, and the name that it is about, where that is known.
+    Refused(Fault, Option<String>),
     // Arguments that name no command.
     Usage,
     Memory(AllocError),
@@ -21,14 +20,14 @@ pub enum Failure {
 impl Failure {
     // The same failure, with the name in this text that it is about, where it has one.
     pub(crate) fn naming(self, heap: Global, text: &[u8]) -> Failure {
-        let Failure::Refused(fault) = self else {
+        let Failure::Refused(fault, None) = self else {
             return self;
         };
         let Some(name) = name_in(text, fault) else {
             return self;
         };
         match String::from_str(heap, name) {
-            Ok(name) => Failure::About(fault, name),
+            Ok(name) => Failure::Refused(fault, Some(name)),
             Err(error) => Failure::Memory(error),
         }
     }
@@ -44,8 +43,8 @@ fn name_in(text: &[u8], fault: Fault) -> Option<&str> {
 impl fmt::Display for Failure {
     fn fmt<W: fmt::Write>(&self, f: &mut fmt::Formatter<W>) -> fmt::Result {
         match self {
-            Failure::Refused(fault) => write!(f, "{fault}"),
-            Failure::About(fault, name) => write!(f, "{fault}: {name}"),
+            Failure::Refused(fault, None) => write!(f, "{fault}"),
+            Failure::Refused(fault, Some(name)) => write!(f, "{fault}: {name}"),
             Failure::Usage => f.write_str(USAGE),
             Failure::Memory(error) => write!(f, "{error}"),
             Failure::Stream(error) => write!(f, "{error}"),
@@ -55,7 +54,7 @@ impl fmt::Display for Failure {
 
 impl From<Fault> for Failure {
     fn from(fault: Fault) -> Failure {
-        Failure::Refused(fault)
+        Failure::Refused(fault, None)
     }
 }
 

@@ -27,7 +27,7 @@ fn check_text(rt: &HostRuntime) -> Result<(), Failure> {
         lines,
         labels,
         headings,
-    } = check(&text).map_err(|fault| Failure::Refused(fault).naming(rt.alloc(), &text))?;
+    } = check(&text).map_err(|fault| Failure::from(fault).naming(rt.alloc(), &text))?;
     println!(rt; "lines {lines}")?;
     println!(rt; "labels {labels}")?;
     println!(rt; "headings {headings}")?;

@@ -41,8 +41,9 @@ fn settle<L: Layout>(
     let start = Record::empty(rt.alloc())?;
     let mut book = Book::new(rt)?;
     let mut passing = open(letter, tries.limit, &start, &mut book.workspace)?;
+    let manuscript = bind(text);
     for _ in 0..tries.limit {
-        let (passed, verdict) = passing.pass_and_judge(bind(text), layout, &mut book.workspace)?;
+        let (passed, verdict) = passing.pass_and_judge(manuscript, layout, &mut book.workspace)?;
         book.print_pass(passed)?;
         book.keep_pages()?;
         if !matches!(verdict, Verdict::Open { .. }) {

@@ -1,4 +1,4 @@
-// How a word is set: where it stands, under a heading's number, or as its copy in the contents that a line asks for.
+// How a word is set: where it stands, under a heading's number, or as its copy in the contents that a line asks for. Neither is a failure.
 use numerals::HeadingNumber;
 
 #[derive(Clone, Copy)]

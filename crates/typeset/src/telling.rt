@@ -14,8 +14,8 @@ pub struct Telling<'a> {
     pub old: &'a Table,
 }
 
-// Room for the longest text of a marked word: 60 bytes around the mark, and a numeral of 12. An array and no `ArrayVec`: whether a
-// word or what is built here is set has to be told anyway, and the end of what is built tells it.
+// Room for the longest text of a marked word: 60 bytes around the mark, and a numeral of 12. An array and no `ArrayVec`:
+// `text_of` hands back a part of the manuscript or of this buffer, which is the form asked for, and the end of what is built tells which.
 #[derive(Clone, Copy)]
 pub struct NumeralBuffer {
     pub bytes: [u8; 72],

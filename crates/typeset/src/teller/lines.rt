@@ -1,4 +1,5 @@
-// The walk of a manuscript: line by line, a compositor is told the acts of each item.
+// The walk of a manuscript: line by line, a compositor is told the acts of each item. A line and its number stay two parameters: the
+// line is read, and the number goes on from the line before.
 ghost use Rattle.std.specs.Prelude.{◌≡◌, true, false, IfOk, if◌then◌else◌};
 ghost use Rattle.compose.specs.Acts.{number_of};
 ghost use Rattle.compose.specs.Playing.{Plays};
@@ -44,7 +45,7 @@ impl<'t, 'n, 'c, C: Compositor> Teller<'t, 'n, 'c, C> {
         self.set_words(false, line, Manner::InPlace(number))
     }
 
-    // Does what a directive asks.
+    // Does what a directive asks. The check refuses a directive that is neither, and the walk passes it over, so each compares for itself.
     fn obey(&mut self, line: Line, number: HeadingNumber) -> Result<(), Fault>
         ensures { Plays (telling_to C.playing) self.old (item_acts (telling_shown self.old.telling) (titles (items self.old.manuscript.text.now)) (number_of number) (item_of Directive (line_of line.entry))) self.new result }
     {

@@ -7,12 +7,13 @@ ghost use Rattle.typeset.specs.Texts.{text_in, Held};
 
 use super::Teller;
 use crate::texts::text_of;
-use arrayvec::ArrayVec;
 use compose::{Compositor, Role, Source};
 use faults::Fault;
+use numerals::Text;
 
 impl<'t, 'n, 'c, C: Compositor> Teller<'t, 'n, 'c, C> {
-    // Has a word set: a part of the manuscript, or what was built at the front of the buffer.
+    // Has a word set: a part of the manuscript, or what was built at the front of the buffer. Role and source stay two parameters, as
+    // the compositor takes them.
     pub fn say(
         &mut self,
         word: &[u8],
@@ -29,12 +30,7 @@ impl<'t, 'n, 'c, C: Compositor> Teller<'t, 'n, 'c, C> {
     }
 
     // Has a numeral or a number set, which is built in the buffer.
-    pub fn say_text(
-        &mut self,
-        text: &ArrayVec<u8, 12>,
-        role: Role,
-        source: Source,
-    ) -> Result<(), Fault>
+    pub fn say_text(&mut self, text: &Text, role: Role, source: Source) -> Result<(), Fault>
         ensures { Plays (telling_to C.playing) self.old (set_word text.now.items (part_of role) source ∷ []) self.new result }
     {
         let numerals = &mut *self.numerals;

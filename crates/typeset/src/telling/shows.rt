@@ -8,16 +8,15 @@ ghost use Rattle.typeset.specs.Shown.{unknown, looked_up, mark_shows};
 ghost use Rattle.typeset.specs.Texts.{telling_shown};
 
 use super::Telling;
-use arrayvec::ArrayVec;
 use marks::Mark;
-use numerals::page_text;
+use numerals::{Text, page_text};
 use record::{LabelEntry, Name};
 
 // What stands for a label that a record lacks.
-fn unknown() -> ArrayVec<u8, 12>
+fn unknown() -> Text
     ensures { result.items ≡ unknown }
 {
-    let mut text = ArrayVec::new();
+    let mut text = Text::new();
     text.push(b'?');
     text.push(b'?');
     text
@@ -33,11 +32,11 @@ impl<'a> Telling<'a> {
     }
 
     // What stands in the place of a mark: nothing for a label.
-    pub(crate) fn shown(self, mark: Mark, name: &Name) -> ArrayVec<u8, 12>
+    pub(crate) fn shown(self, mark: Mark, name: &Name) -> Text
         ensures { result.items ≡ mark_shows (telling_shown self.entry) mark (name_bytes name.now) }
     {
         match mark {
-            Mark::Label => ArrayVec::new(),
+            Mark::Label => Text::new(),
             Mark::Page => match self.entry(name) {
                 Some(entry) => page_text(self.style, entry.page),
                 None => unknown(),

@@ -11,8 +11,8 @@ use Rattle.typeset.specs.Numbering.{before_any, number_after_lem}
 use Rattle.typeset.specs.Script.{told, item_acts}
 use Rattle.typeset.specs.Tellers.{telling_to}
 use Rattle.typeset.specs.Texts.{telling_shown}
-use Rattle.typeset.proofs.Plays.{none_played, played_on, refused_there, all_played, seen_from}
-use Rattle.typeset.proofs.Walks.{line_first, none_left, first_kept, room_left}
+use Rattle.typeset.proofs.Plays.{none_played, played_on, refused_there, seen_from}
+use Rattle.typeset.proofs.Walks.{line_first, first_kept, room_left}
 use Rattle.typeset.proofs.teller.Teller.walk_lines.Goals as goal
 
 pub loop-line-init : goal.loop-line-init
@@ -33,11 +33,6 @@ loop-line-init g c =
       ap lines_kept all ∙ kept.kept.formed,
       (omega (arith, few, z1), omega (arith, few, z2), omega (arith, few, z3)),
     )
-
-pub walk_line-requires-clause-line_value : goal.walk_line-requires-clause-line_value
-walk_line-requires-clause-line_value g c =
-    let steps = c.in-Some.ensures.steps in
-    (first_kept steps.1.0 c.loop-line.invariant.1).0
 
 pub loop-line-preserved : goal.loop-line-preserved
 loop-line-preserved g c =
@@ -72,9 +67,3 @@ returns-in_err-number g c =
     let said = seen_from p me c.loop-line.self (λ f. item_acts (telling_shown f.1) (titles (items f.0.text.now)) (number_after_lem k (line_item l)) (line_item l)) inv.0.fixed c.in_err-number.ensures.plays in
     let q = err_from_is_err_and c.from_residual.result c.from_residual.ensures.1 in
     rw (q.1, q.2) (refused_there p _ _ inv.0 (line_first sh ts k _ l first refl) said)
-
-pub returns : goal.returns
-returns g c =
-    let me = c.args.self.now in
-    let ts = titles (items me.manuscript.text.now) in
-    all_played (telling_to g.C.Compositor.playing) c.loop-line.invariant.0 (none_left (telling_shown me.telling) ts (number_of c.loop-line.number) c.in-None.ensures.steps.1.0)
