@@ -1,6 +1,5 @@
-use Rattle.std.proofs.Common.{◌≡◌, ℕ, suc, ◌+◌, ◌-◌, ◌/◌, ◌<◌, List, ◌++◌, length, replicate, sym, ap, ◌∙◌, append_assoc, arith, length-append}
+use Rattle.std.proofs.Common.{◌≡◌, ℕ, suc, ◌+◌, ◌-◌, ◌/◌, ◌<◌, List, ◌++◌, length, replicate, ap, ◌∙◌, append_assoc, arith, length-append}
 use Rattle.std.specs.List.{flat_map}
-use Rattle.std.proofs.lemmas.List.{append-nil}
 use Rattle.numerals.specs.Roman.{Row, letters}
 use Rattle.numerals.proofs.romans.push_row.Goals as goal
 
@@ -19,8 +18,3 @@ pub loop-preserved : goal.loop-preserved
 loop-preserved c =
     let row = c.args.row in
     ap (λ l. l ++ flat_map letters (replicate (c.args.n / row.0 - (c.loop.counter + 1)) row)) c.push_letters.ensures ∙ again c.loop.text.items row (c.args.n / row.0) c.loop.counter c.loop-test.true ∙ c.loop.invariant
-
-pub returns-clause-items : goal.returns-clause-items
-returns-clause-items c =
-    let none : c.args.n / c.args.row.0 - c.loop.counter ≡ 0 = omega (arith, c.loop-test.false) in
-    sym (append-nil c.loop.text.items) ∙ ap (λ k. c.loop.text.items ++ flat_map letters (replicate k c.args.row)) (sym none) ∙ c.loop.invariant

@@ -15,25 +15,6 @@ use Rattle.typeset.proofs.Plays.{none_played, played_on, refused_there, seen_fro
 use Rattle.typeset.proofs.Walks.{line_first, first_kept, room_left}
 use Rattle.typeset.proofs.teller.Teller.walk_lines.Goals as goal
 
-pub loop-line-init : goal.loop-line-init
-loop-line-init g c =
-    let me = c.args.self.now in
-    let ts = titles (items me.manuscript.text.now) in
-    let sh = telling_shown me.telling in
-    let n = c.before_any-number.ensures in
-    let k : before_any ≡ number_of c.before_any-number.result = λ i. record { level = sym n.0 i; counters = sym n.1 i } in
-    let kept = c.kept_text-text.ensures in
-    let all : lines_left c.into_iter-line-iterator.result ≡ lines c.kept_text-text.result.now = ap lines_left c.into_iter-line-iterator.ensures.into_iter_gives ∙ (λ i. left (c.new-line-items.ensures.text i) (c.new-line-items.ensures.place i)) in
-    let book = sym (all ∙ ap lines kept.value) in
-    let few = subst (λ (ls : List SourceLine). headings ls ≤ 128) (sym all) kept.kept.few_headings in
-    let z1 = ap (λ (cs : Counters). cs.first) n.1 in
-    let z2 = ap (λ (cs : Counters). cs.second) n.1 in
-    let z3 = ap (λ (cs : Counters). cs.third) n.1 in (
-      none_played (telling_to g.C.Compositor.playing) me (λ i. told sh ts (k i) (items_of (book i))),
-      ap lines_kept all ∙ kept.kept.formed,
-      (omega (arith, few, z1), omega (arith, few, z2), omega (arith, few, z3)),
-    )
-
 pub loop-line-preserved : goal.loop-line-preserved
 loop-line-preserved g c =
     let p = telling_to g.C.Compositor.playing in
