@@ -1,4 +1,6 @@
 -- The shapes of a fault outside a session: pass 0, and no line and no name unless they are given.
+--   line_at           the line with a number: lines count from 1, and 0 is none
+--   span_at           the span with these numbers: 0 and 0 is none
 --   plain             a fault of no line
 --   in_line_lem       a fault of a line
 --   about_name_lem    a fault of a line for a name in it
@@ -7,16 +9,22 @@
 --   line_number       the number of the line, 0 where there is none
 --   name_offset       the offset of the name
 --   name_length       the length of the name
-use Rattle.std.specs.Prelude.{ℕ, Some, None, Option}
+use Rattle.std.specs.Prelude.{ℕ, Some, None, Option, cond, ◌&&◌, ◌==◌}
 use Rattle.faults.specs.declared.cause.Cause.{Cause}
 use Rattle.faults.specs.declared.fault.Fault.{Fault}
 use Rattle.faults.specs.declared.fault.Span.{Span}
 
+abbrev pub line_at : ℕ → Option ℕ
+line_at n = cond (n == 0) None (Some n)
+
+abbrev pub span_at : Span → Option Span
+span_at s = cond (s.offset == 0 && s.length == 0) None (Some s)
+
 abbrev pub about_name_lem : Cause → ℕ → Span → Fault
-about_name_lem c n s = record { cause = c; line = Some n; name = Some s; pass = 0 }
+about_name_lem c n s = record { cause = c; line = line_at n; name = span_at s; pass = 0 }
 
 abbrev pub in_line_lem : Cause → ℕ → Fault
-in_line_lem c n = record { cause = c; line = Some n; name = None; pass = 0 }
+in_line_lem c n = record { cause = c; line = line_at n; name = None; pass = 0 }
 
 abbrev pub plain : Cause → Fault
 plain c = record { cause = c; line = None; name = None; pass = 0 }

@@ -1,6 +1,6 @@
 // A refusal, and the part of a manuscript that it is about.
 ghost use Rattle.std.specs.Prelude.{◌≡◌};
-ghost use Rattle.faults.specs.Faults.{plain, in_line_lem, about_name_lem};
+ghost use Rattle.faults.specs.Faults.{plain, line_at, span_at, in_line_lem, about_name_lem};
 
 use crate::cause::Cause;
 use std::error::Error;
@@ -13,13 +13,32 @@ pub struct Span {
     pub length: usize,
 }
 
-// `line` counts from 1; `name` is where the label's name stands in the manuscript; `pass` is how many passes were made.
+// `line` counts from 1; `name` is where the label's name stands in the manuscript; `pass` is the pass being made where that refuses a
+// word, elsewhere in a session how many were accepted, and 0 outside one.
 #[derive(Clone, Copy, PartialEq, Eq, Debug)]
 pub struct Fault {
     pub cause: Cause,
     pub line: Option<usize>,
     pub name: Option<Span>,
     pub pass: u8,
+}
+
+// The line with a number. Lines count from 1, so 0 is no line, as in answers.
+fn line_at(number: usize) -> Option<usize>
+    ensures { result ≡ line_at number }
+{
+    if number == 0 { None } else { Some(number) }
+}
+
+// The part of a text with these numbers: 0 and 0 is none, as in answers.
+fn span_at(span: Span) -> Option<Span>
+    ensures { result ≡ span_at span }
+{
+    if span.offset == 0 && span.length == 0 {
+        None
+    } else {
+        Some(span)
+    }
 }
 
 impl Fault {
@@ -40,7 +59,7 @@ impl Fault {
         ensures { result ≡ in_line_lem cause line }
     {
         Fault {
-            line: Some(line),
+            line: line_at(line),
             ..Fault::plain(cause)
         }
     }
@@ -50,7 +69,7 @@ impl Fault {
         ensures { result ≡ about_name_lem cause line name }
     {
         Fault {
-            name: Some(name),
+            name: span_at(name),
             ..Fault::in_line(cause, line)
         }
     }

@@ -4,11 +4,12 @@
 --   heard            a word after the layout's outcome
 --   plays            an act
 --   typesetting      the meaning of the compositor
-use Rattle.std.specs.Prelude.{◌∷◌, ℕ, Some}
+use Rattle.std.specs.Prelude.{◌∷◌, ℕ}
 use Rattle.compose.specs.Acts.{Act, set_word, end_of_paragraph, end_of_page}
 use Rattle.compose.specs.Playing.{Play, Playing, played}
 use Rattle.compose.specs.Playing as playing
 use Rattle.compose.specs.declared.acts.Source.{Source}
+use Rattle.faults.specs.Faults.{line_at}
 use Rattle.faults.specs.declared.fault.Fault.{Fault}
 use Rattle.layout.specs.Meaning.{Meaning, Outcome, refused, placed}
 use Rattle.layout.specs.Spots.{page_of}
@@ -18,7 +19,7 @@ use Rattle.setting.specs.Keeping.{Keeping}
 use Rattle.setting.specs.declared.typesetter.Typesetter.{Typesetter}
 
 abbrev pub refusal_fault : ℕ → Source → Refusal → Fault
-refusal_fault pass s e = record { cause = cause_of e; line = Some s.line; name = s.name; pass = pass }
+refusal_fault pass s e = record { cause = cause_of e; line = line_at s.line; name = s.name; pass = pass }
 
 pub record Setup (Place Kept : Type 0) : Type 0 where
   pub place : Place

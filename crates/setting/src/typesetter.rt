@@ -20,10 +20,9 @@ impl<'l, 'k, L: Layout, K: Keeper> Compositor for Typesetter<'l, 'k, L, K> {
     fn word(&mut self, word: &[u8], role: Role, source: Source) -> Result<(), Fault> {
         let pass = self.pass;
         let mark = self.layout.set(word).map_err(|refusal| Fault {
-            cause: Cause::from(refusal),
-            line: Some(source.line),
             name: source.name,
             pass,
+            ..Fault::in_line(Cause::from(refusal), source.line)
         })?;
         let page = self.layout.page(mark);
         self.keeper.hear(word, role, page.number());
