@@ -42,10 +42,13 @@ fn push_row(text: &mut Text, row: Row, n: u16) -> u16
     ensures rest { result ≡ n % row.0 }
     ensures items { text.new.items ≡ text.old.items ++ flat_map letters (replicate (n / row.0) row) }
 {
-    for _ in 0..n / row.0 {
+    // By subtraction: most rows do not go into what is left and none goes in more than three times, so a division for each row costs more.
+    let mut rest = n;
+    while rest >= row.0 {
         push_letters(text, row);
+        rest -= row.0;
     }
-    n % row.0
+    rest
 }
 
 // Adds the roman numeral of a number for which there is room.
