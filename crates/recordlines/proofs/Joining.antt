@@ -17,6 +17,9 @@ pub length_hex : (bs : List ℕ) → length (hex bs) ≡ 2 * length bs
 length_hex [] = refl
 length_hex (b ∷ bs) = let ih = length_hex bs in omega arith
 
+pub length_line : (f : List ℕ) → length (line f) ≡ 2 * length f + 1
+length_line f = length-append (hex f) _ ∙ ap (λ n. n + 1) (length_hex f)
+
 pub joined_map : {X Y : Type 0} (f : Y → List ℕ) (g : X → Y) (xs : List X) → flat_map f (map g xs) ≡ flat_map (λ x. f (g x)) xs
 joined_map f g [] = refl
 joined_map f g (x ∷ xs) = ap (λ l. f (g x) ++ l) (joined_map f g xs)

@@ -18,6 +18,11 @@ pub trait Framed {
 
     fn frame(&self) -> Frame
         ensures { result.items ≡ frame self.now };
+
+    // How many bytes the frame has: a length by itself, as saving asks for the lengths of all before it writes any.
+    fn frame_length(&self) -> usize
+        ensures value { result ≡ length (frame self.now) }
+        ensures bound { result ≤ 24 };
 }
 
 // Adds bytes for which there is room.
@@ -55,6 +60,10 @@ impl Framed for LabelEntry {
         append(&mut frame, &position_bytes(self.number, self.page));
         frame
     }
+
+    fn frame_length(&self) -> usize {
+        8 + self.name.as_bytes().len()
+    }
 }
 
 impl Framed for ContentsEntry {
@@ -65,6 +74,10 @@ impl Framed for ContentsEntry {
         frame.push(0x43);
         append(&mut frame, &position_bytes(self.number, self.page));
         frame
+    }
+
+    fn frame_length(&self) -> usize {
+        7
     }
 }
 

@@ -21,7 +21,7 @@ fn lines_length<E: Framed>(entries: &[E]) -> usize
 {
     let mut total = 0;
     for entry in entries {
-        total += line_of(&entry.frame()).len();
+        total += 2 * entry.frame_length() + 1;
     }
     total
 }
