@@ -30,6 +30,18 @@ pub fn fault_line(heap: Global, fault: Fault) -> Result<String, AllocError>
     format!(in heap; "fault {number} {layer} {line} {offset} {length} {pass}")
 }
 
+// Adds one answer of several to their line. One at a time and no `join` of all: a long request then takes the memory of its line alone.
+pub(crate) fn add_answer(
+    line: &mut String,
+    separator: &str,
+    answer: &str,
+) -> Result<(), AllocError> {
+    if !line.is_empty() {
+        line.push_str(separator)?;
+    }
+    line.push_str(answer)
+}
+
 fn counts_line(heap: Global, counts: Counts) -> Result<String, AllocError>
     ensures { IfOk result (λ s. string_bytes s ≡ counts_line_lem counts) }
 {

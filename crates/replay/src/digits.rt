@@ -7,8 +7,11 @@ pub fn decode(heap: Global, digits: &str) -> Result<Vec<u8>, Unanswered> {
     if digits == "-" {
         return Ok(Vec::new(heap));
     }
-    // the crate takes lower-case digits too, and requests do not
-    if digits.bytes().any(|b| b.is_ascii_lowercase()) {
+    // the crate takes lower-case digits too, and requests do not; this stops at the first byte that is no digit, before any memory is taken
+    if !digits
+        .bytes()
+        .all(|b| matches!(b, b'0'..=b'9' | b'A'..=b'F'))
+    {
         return Err(Unanswered::Unreadable);
     }
     Ok(hex::decode(heap, digits)?)

@@ -1,5 +1,5 @@
 // Requests that carry out the calls of a session.
-use crate::answers::fault_line;
+use crate::answers::{add_answer, fault_line};
 use crate::digits::{decode, encode};
 use crate::named::{Job, on_layout};
 use crate::unanswered::Unanswered;
@@ -171,13 +171,13 @@ impl Job for Asked<'_> {
             layout,
             workspace,
         };
-        let mut answers = Vec::new(heap);
+        let mut line = String::new(heap);
         for call in self.calls {
-            let (next, line) = desk.answer(session, call.parse()?)?;
+            let (next, answer) = desk.answer(session, call.parse()?)?;
             session = next;
-            answers.push(line)?;
+            add_answer(&mut line, " ; ", answer.as_str())?;
         }
-        Ok(answers.join(heap, " ; ")?)
+        Ok(line)
     }
 }
 
@@ -194,11 +194,14 @@ pub fn session_line(heap: Global, words: &[&str]) -> Result<String, Unanswered> 
     let [layout, code, limit, start, text, calls @ ..] = words else {
         return Err(Unanswered::Unreadable);
     };
+    // the numbers first: a request that has none is told from few bytes
+    let letter = code.parse()?;
+    let limit = limit.parse()?;
     let start = decode(heap, *start)?;
     let text = decode(heap, *text)?;
     let asked = Asked {
-        letter: code.parse()?,
-        limit: limit.parse()?,
+        letter,
+        limit,
         start: &start,
         text: &text,
         calls,

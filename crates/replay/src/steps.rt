@@ -1,4 +1,5 @@
 // Requests that set words on a layout, step by step.
+use crate::answers::add_answer;
 use crate::digits::decode;
 use crate::named::Job;
 use crate::unanswered::Unanswered;
@@ -15,12 +16,12 @@ impl Job for Steps<'_> {
         if self.0.is_empty() {
             return Ok(String::from_str(heap, "-")?);
         }
-        let answers: Vec<String> = self
-            .0
-            .iter()
-            .map(|step| answer_step(heap, layout, *step))
-            .try_collect(heap)?;
-        Ok(answers.join(heap, " ")?)
+        let mut line = String::new(heap);
+        for step in self.0 {
+            let answer = answer_step(heap, layout, *step)?;
+            add_answer(&mut line, " ", answer.as_str())?;
+        }
+        Ok(line)
     }
 }
 

@@ -2,7 +2,6 @@
 use crate::book::Book;
 use crate::failures::Failure;
 use crate::read_text;
-use faults::{Cause, Fault};
 use layout::Layout;
 use manuscript::{bind, check};
 use record::Record;
@@ -37,9 +36,10 @@ fn settle<L: Layout>(
     layout: &mut L,
 ) -> Result<(), Failure> {
     check(text)?;
-    let letter = tries.letter.ok_or(Fault::plain(Cause::SessionSettings))?;
     let start = Record::empty(rt.alloc())?;
     let mut book = Book::new(rt)?;
+    // no numerals have the letter 0: opening itself refuses what is not one letter
+    let letter = tries.letter.unwrap_or(0);
     let mut passing = open(letter, tries.limit, &start, &mut book.workspace)?;
     let manuscript = bind(text);
     for _ in 0..tries.limit {
