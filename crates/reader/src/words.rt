@@ -26,7 +26,7 @@ fn word_bounds(line: &[u8], at: usize) -> Option<(usize, usize)>
     Some((offset, offset + length))
 }
 
-// The first word at or after a place of a line, or none.
+// The first word at or after a place of a line, or none. The place is a number beside the line, here and in `Words`: faults tell offsets.
 pub fn next_word<'a>(line: &'a [u8], at: usize) -> Option<Word<'a>>
     ensures next { NextWord line.now at result }
     ensures law { WordsLaw at (drop at line.now) }
