@@ -2,7 +2,8 @@
 --   fault_line_lem     a fault: number, layer, line, offset and length of the name, pass
 --   counts_line_lem    the counts of a manuscript
 --   check_line_lem     the answer of a check
-use Rattle.std.specs.Prelude.{ℕ, List, ◌++◌, Ok, Err, codes, decimal, Result}
+--   added              a line of answers with one more, after a separator if it is not the first
+use Rattle.std.specs.Prelude.{◌≡◌, ℕ, List, [], ◌++◌, length, cond, ◌==◌, Ok, Err, codes, decimal, Result, refl}
 use Rattle.faults.specs.Faults.{line_number, name_offset, name_length}
 use Rattle.faults.specs.Numbers.{number_of, layer_of, layer_number}
 use Rattle.faults.specs.declared.fault.Fault.{Fault}
@@ -23,3 +24,9 @@ told (Err f) = fault_line_lem f
 
 abbrev pub check_line_lem : List ℕ → List ℕ
 check_line_lem t = told (checked t)
+
+abbrev pub added : List ℕ → List ℕ → List ℕ → List ℕ
+added line separator answer = cond (length line == 0) line (line ++ separator) ++ answer
+
+two_answers : added (added [] (codes " ; ") (codes "locked")) (codes " ; ") (codes "absent") ≡ codes "locked ; absent"
+two_answers = refl

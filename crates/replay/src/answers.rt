@@ -1,6 +1,6 @@
 // The answer to a request.
 ghost use Rattle.std.specs.Prelude.{◌≡◌, IfOk, string_bytes};
-ghost use Rattle.replay.specs.Answers.{fault_line_lem, counts_line_lem, check_line_lem};
+ghost use Rattle.replay.specs.Answers.{fault_line_lem, counts_line_lem, check_line_lem, added};
 
 use crate::digits::decode;
 use crate::named::on_layout;
@@ -31,11 +31,9 @@ pub fn fault_line(heap: Global, fault: Fault) -> Result<String, AllocError>
 }
 
 // Adds one answer of several to their line. One at a time and no `join` of all: a long request then takes the memory of its line alone.
-pub(crate) fn add_answer(
-    line: &mut String,
-    separator: &str,
-    answer: &str,
-) -> Result<(), AllocError> {
+pub(crate) fn add_answer(line: &mut String, separator: &str, answer: &str) -> Result<(), AllocError>
+    ensures { IfOk result (λ _. string_bytes line.new ≡ added (string_bytes line.old) separator.now answer.now) }
+{
     if !line.is_empty() {
         line.push_str(separator)?;
     }
